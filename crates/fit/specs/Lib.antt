@@ -1,0 +1,10 @@
+-- Read in this order: it goes as document 01 goes.
+pub mod Reading
+pub mod Rule
+pub mod Place
+pub mod Listing
+pub mod Walk
+pub mod Refusal
+pub mod Made
+pub mod Spans
+pub mod Answer

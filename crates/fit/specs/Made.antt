@@ -1,0 +1,24 @@
+-- The checked constructors of tolerance and profile. Assumes nothing.
+use Prim.Native.Nat.{ℕ, zero, suc}
+use mathlib.Core.List.{List}
+use lib.ListN.{length, replicate}
+use Rattle.fit.specs.Listing.{overlay}
+use Rattle.fit.specs.Refusal.{maxPoints, ofProfile, ofTolerance}
+use Rattle.fit.specs.declared.limits.MadeTolerance.{MadeTolerance}
+use Rattle.fit.specs.declared.limits.MadeProfile.{MadeProfile}
+
+-- by the refusal's number: the tolerance, or the number and zeros
+unfoldable pub madeTolerance : ℕ → ℕ → ℕ → MadeTolerance
+madeTolerance zero delta gamma = record { refusal = 0; tolerance = record { delta = delta; gamma = gamma } }
+madeTolerance (suc num) delta gamma = record { refusal = suc num; tolerance = record { delta = 0; gamma = 0 } }
+
+abbrev pub toleranceMade : ℕ → ℕ → MadeTolerance
+toleranceMade delta gamma = madeTolerance (ofTolerance delta gamma) delta gamma
+
+-- by the refusal's number: the profile, its points first and zeros after them; or the number and zeros
+unfoldable pub madeProfile : ℕ → List ℕ → MadeProfile
+madeProfile zero x = record { refusal = 0; profile = record { points = overlay x (replicate maxPoints 0); m = length x } }
+madeProfile (suc num) x = record { refusal = suc num; profile = record { points = replicate maxPoints 0; m = 0 } }
+
+abbrev pub profileMade : List ℕ → MadeProfile
+profileMade x = madeProfile (ofProfile x) x

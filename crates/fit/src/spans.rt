@@ -1,0 +1,86 @@
+// The profile compiled once per search to four numbers a point, and the tests over them.
+ghost use mathlib.Core.Path.{_≡_};
+ghost use Prim.Native.Nat.{_+_, _-_, _*_, _≤_, _<_, max};
+ghost use lib.ListN.{length};
+ghost use Rattle.fit.specs.Reading.{lowest};
+ghost use Rattle.fit.specs.Refusal.{maxPoints, maxDelta};
+ghost use Rattle.fit.specs.Rule.{Rule};
+ghost use Rattle.fit.specs.Spans.{spanFits, spanCost, ruleIn, spansOf};
+
+// The least value that is a reading.
+const LOWEST: u16 = 0;
+
+fn wide(a: u8) -> u16
+    ensures { λ r. ⌜ (r ≡ a) × (r ≤ 255) ⌝ }
+{
+    a as u16
+}
+
+// The least reading that is near point p.
+fn low_end(p: u16, delta: u16) -> u16
+    requires { ⌜ delta ≤ maxDelta ⌝ }
+    ensures { λ r. ⌜ r ≡ max lowest (p - delta) ⌝ }
+{
+    if p < delta + LOWEST {
+        return LOWEST;
+    }
+    p - delta
+}
+
+// The four numbers of each point, in point order, and zeros beyond them.
+pub fn spans_of(points: &[u8], delta: u32) -> [u16; 4 * super::limits::Profile::MAX_POINTS]
+    requires { ⌜ (length (now points) ≤ maxPoints) × (delta ≤ maxDelta) ⌝ }
+    ensures { λ r. ⌜ r ≡ spansOf delta (now (points .entry)) ⌝ }
+{
+    let d = delta as u16;
+    let mut spans = [0u16; 4 * super::limits::Profile::MAX_POINTS];
+    let mut i = 0;
+    while i < points.len() {
+        let p = wide(points[i]);
+        spans[4 * i] = low_end(p, d);
+        spans[4 * i + 1] = p + d;
+        spans[4 * i + 2] = p;
+        spans[4 * i + 3] = p;
+        i += 1;
+    }
+    spans
+}
+
+// a - b, and 0 where that is below 0.
+fn above(a: u16, b: u16) -> u32
+    ensures { λ r. ⌜ (r ≡ a - b) × (r ≤ a) ⌝ }
+{
+    if a < b { 0 } else { (a - b) as u32 }
+}
+
+// Whether a lies between low and high: one test, since a branch between its halves would be mispredicted half of the time.
+fn in_span(low: u16, high: u16, a: u8) -> bool
+    ensures { λ r. ⌜ r ≡ spanFits low high a ⌝ }
+{
+    let b = wide(a);
+    above(low, b) + above(b, high) == 0
+}
+
+// How far a lies outside of from .. to.
+fn span_cost(from: u16, to: u16, a: u8) -> u32
+    ensures { λ r. ⌜ (r ≡ spanCost from to a) × (r ≤ 65790) ⌝ }
+{
+    let b = wide(a);
+    above(from, b) + above(b, to)
+}
+
+// Whether reading a suits point i.
+pub fn suits(spans: &[u16], i: usize, a: u8) -> bool
+    requires { ⌜ 4 * i + 3 < length (now spans) ⌝ }
+    ensures { λ r. ⌜ r ≡ ruleIn (now (spans .entry)) .fit i a ⌝ }
+{
+    in_span(spans[4 * i], spans[4 * i + 1], a)
+}
+
+// What reading a adds to the sum at point i.
+pub fn cost(spans: &[u16], i: usize, a: u8) -> u32
+    requires { ⌜ 4 * i + 3 < length (now spans) ⌝ }
+    ensures { λ r. ⌜ (r ≡ ruleIn (now (spans .entry)) .cost i a) × (r ≤ 65790) ⌝ }
+{
+    span_cost(spans[4 * i + 2], spans[4 * i + 3], a)
+}
