@@ -2,6 +2,7 @@
 // Points and positions count from 0. What a place is stands in specs/, and nothing here says it again.
 mod answer;
 mod limits;
+mod reading;
 mod spans;
 mod window;
 
@@ -13,7 +14,9 @@ pub use limits::MadeTolerance;
 pub use limits::Profile;
 pub use limits::Tolerance;
 pub use limits::refusal;
+pub use spans::cost;
 pub use spans::spans_of;
+pub use spans::suits;
 pub use window::count_windows;
 pub use window::is_place;
 pub use window::try_at;

@@ -1,30 +1,15 @@
 // The profile compiled once per search to four numbers a point, and the tests over them.
 ghost use mathlib.Core.Path.{_≡_};
-ghost use Prim.Native.Nat.{_+_, _-_, _*_, _≤_, _<_, max};
+ghost use Prim.Native.Nat.{_+_, _-_, _*_, _≤_, _<_};
 ghost use lib.ListN.{length};
-ghost use Rattle.fit.specs.Reading.{lowest};
 ghost use Rattle.fit.specs.Refusal.{maxPoints, maxDelta};
 ghost use Rattle.fit.specs.Rule.{Rule};
 ghost use Rattle.fit.specs.Spans.{spanFits, spanCost, ruleIn, spansOf};
-
-// The least value that is a reading.
-const LOWEST: u16 = 0;
 
 fn wide(a: u8) -> u16
     ensures { λ r. ⌜ (r ≡ a) × (r ≤ 255) ⌝ }
 {
     a as u16
-}
-
-// The least reading that is near point p.
-fn low_end(p: u16, delta: u16) -> u16
-    requires { ⌜ delta ≤ maxDelta ⌝ }
-    ensures { λ r. ⌜ r ≡ max lowest (p - delta) ⌝ }
-{
-    if p < delta + LOWEST {
-        return LOWEST;
-    }
-    p - delta
 }
 
 // The four numbers of each point, in point order, and zeros beyond them.
@@ -37,7 +22,7 @@ pub fn spans_of(points: &[u8], delta: u32) -> [u16; 4 * super::limits::Profile::
     let mut i = 0;
     while i < points.len() {
         let p = wide(points[i]);
-        spans[4 * i] = low_end(p, d);
+        spans[4 * i] = wide(super::reading::least_near(points[i], delta));
         spans[4 * i + 1] = p + d;
         spans[4 * i + 2] = p;
         spans[4 * i + 3] = p;
