@@ -4,5 +4,9 @@ pub mod Listings
 pub mod Risings
 pub mod Rules
 pub mod Places
-
---
+pub mod Refusals
+pub mod Constructed
+pub mod Compiled
+pub mod Steps
+pub mod Answers
+pub mod Alongs

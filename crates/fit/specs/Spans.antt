@@ -3,13 +3,13 @@
 -- nothing; any other costs its distance from these.
 use Prim.Native.Nat.{ℕ, _+_, _-_, _*_, _≤_, max}
 use mathlib.Core.Bool.{Bool, _&&_}
-use mathlib.Core.List.{List, [], _∷_}
+use mathlib.Core.List.{List, [], _∷_, _++_}
 use lib.ListN.{length, getD, replicate}
 use lib.Dec.{leb}
 use Rattle.fit.specs.Reading.{lowest}
 use Rattle.fit.specs.Rule.{Rule}
 use Rattle.fit.specs.Listing.{overlay}
-use Rattle.fit.specs.Refusal.{maxPoints, maxReadings}
+use Rattle.fit.specs.Refusal.{maxPoints, maxGamma, maxReadings}
 
 abbrev pub spanFits : ℕ → ℕ → ℕ → Bool
 spanFits low high a = leb low a && leb a high
@@ -24,18 +24,22 @@ ruleIn spans = record {
   cost = λ i a. spanCost (getD spans (4 * i + 2) 0) (getD spans (4 * i + 3) 0) a;
 }
 
--- the numbers of ordinary points: a reading from p - delta to p + delta suits point p, and p itself costs nothing
+-- the numbers of an ordinary point p: the readings from p - delta to p + delta suit it, and p itself costs nothing
+abbrev pub spanOf : ℕ → ℕ → List ℕ
+spanOf delta p = max lowest (p - delta) ∷ (p + delta) ∷ p ∷ p ∷ []
+
 unfoldable pub spansFor : ℕ → List ℕ → List ℕ
 spansFor delta [] = []
-spansFor delta (p ∷ x) = max lowest (p - delta) ∷ (p + delta) ∷ p ∷ p ∷ spansFor delta x
+spansFor delta (p ∷ x) = spanOf delta p ++ spansFor delta x
 
--- the same in a list of 256 numbers, zeros after them
+-- those of a whole profile, in a list of 256 numbers with zeros after them
 abbrev pub spansOf : ℕ → List ℕ → List ℕ
 spansOf delta x = overlay (spansFor delta x) (replicate (4 * maxPoints) 0)
 
--- what a search over spans asks of its input: 1 to 64 points of four numbers each, and a recording of n readings that is not too long
-pub record Ready (spans : List ℕ) (m n : ℕ) : Type 0 where
+-- what a search over spans asks of its input: 1 to 64 points of four numbers each, and within the limits otherwise
+pub record Ready (spans : List ℕ) (m gamma n : ℕ) : Type 0 where
   pub some : 1 ≤ m
   pub few : m ≤ maxPoints
   pub full : 4 * m ≤ length spans
+  pub gamma-small : gamma ≤ maxGamma
   pub short : n ≤ maxReadings

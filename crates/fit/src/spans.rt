@@ -42,7 +42,7 @@ fn above(a: u16, b: u16) -> u32
 fn in_span(low: u16, high: u16, a: u8) -> bool
     ensures { λ r. ⌜ r ≡ spanFits low high a ⌝ }
 {
-    let b = wide(a);
+    let b = a as u16;
     above(low, b) + above(b, high) == 0
 }
 
@@ -50,7 +50,7 @@ fn in_span(low: u16, high: u16, a: u8) -> bool
 fn span_cost(from: u16, to: u16, a: u8) -> u32
     ensures { λ r. ⌜ (r ≡ spanCost from to a) × (r ≤ 65790) ⌝ }
 {
-    let b = wide(a);
+    let b = a as u16;
     above(from, b) + above(b, to)
 }
 

@@ -1,41 +1,45 @@
+-- `fit::limits::held_points` meets its contract: after i points the first i of them are laid. Assumes nothing.
+use Prim.Native.Nat.{ℕ, _≤_, _-_}
+use mathlib.Core.Path.{_≡_, sym}
+use native.Mathlib.Omega.{arith}
+use lib.ListN.{length, take, replicate}
+use lib.Seq.{take-length}
+use Rattle.fit.specs.Listing.{overlay}
+use Rattle.fit.specs.Refusal.{maxPoints}
+use Rattle.fit.proofs.Laws.Listings.{overlay-none}
+use Rattle.fit.proofs.Laws.Constructed.{laid-next}
 use Rattle.fit.proofs.limits.held_points.Statement.{statement}
 use Rattle.fit.proofs.limits.held_points.Tie as tie
-use Rattle.fit.proofs.limits.held_points.Reads as reads
-use Rattle.fit.proofs.limits.held_points.Lts as lts
 
 abbrev Inv-loop : tie.InvT-loop
-Inv-loop points held₀ i₀ held i = ?
+Inv-loop points held₀ i₀ held i = (i ≤ length points) × (held ≡ overlay (take i points) (replicate maxPoints 0))
 
 abbrev μ-loop : tie.MeasureT-loop
-μ-loop points held₀ i₀ held i = ?
+μ-loop points held₀ i₀ held i = length points - i
 
--- src/limits.rt:104:5
 loop-holds : tie.Need-loop-holds Inv-loop μ-loop
-loop-holds c = ?
+loop-holds c = (omega arith, sym (overlay-none _))
 
--- src/limits.rt:105:19
 shared-slice-read-held : tie.Need-shared-slice-read-held Inv-loop μ-loop
-shared-slice-read-held c = ?
+shared-slice-read-held c = omega arith
 
--- src/limits.rt:105:9
 array-write-held : tie.Need-array-write-held Inv-loop μ-loop
-array-write-held c = ?
+array-write-held c = omega arith
 
--- src/limits.rt:106:9
 add-i : tie.Need-add-i Inv-loop μ-loop
-add-i c = ?
+add-i c = omega arith
 
--- src/limits.rt:104:5
 loop-less : tie.Need-loop-less Inv-loop μ-loop
-loop-less c = ?
+loop-less c = omega arith
 
--- src/limits.rt:104:5
 loop-again : tie.Need-loop-again Inv-loop μ-loop
-loop-again c = ?
+loop-again c = (omega arith, laid-next _ _ _ _ (omega arith) (c .before .before .loop .inv .1))
 
--- src/limits.rt:98:1
 returns : tie.Need-returns Inv-loop μ-loop
-returns c = ?
+returns c =
+    let points = c .before .before .args .points .now in
+    let e : c .before .loop .i ≡ length points = omega arith in
+    rw (← take-length points, ← e) (c .before .loop .inv .1)
 
 pub held-points-spec : {M : Type 1} → statement M
 held-points-spec =

@@ -1,25 +1,21 @@
+-- `fit::limits::refusal` meets its contract: a question's number where it is not 0, else the recording's. Assumes nothing.
+use mathlib.Core.Path.{sym}
+use Rattle.fit.proofs.Laws.Refusals.{first-given, later-given, recording-bad, recording-good}
 use borrow.Author.Needs.{needs}
 use Rattle.fit.proofs.limits.refusal.Statement.{statement}
 use Rattle.fit.proofs.limits.refusal.Tie as tie
-use Rattle.fit.proofs.limits.refusal.Reads as reads
-use Rattle.fit.proofs.limits.refusal.Lts as lts
-use Rattle.fit.proofs.limits.asked.Reads as asked-reads
 
--- src/limits.rt:127:9
 asked-requires : tie.Need-asked-requires
 asked-requires c κs = search needs
 
--- src/limits.rt:129:9
 returns : tie.Need-returns
-returns c = ?
+returns c = first-given _ _ _ (c .before .asked .ensures) (c .if1 .taken)
 
--- src/limits.rt:132:9
 returns-2 : tie.Need-returns-2
-returns-2 c = ?
+returns-2 c = later-given _ _ _ (c .before .before .asked .ensures) (c .before .if1 .left) (sym (recording-bad _ (c .if2 .taken)))
 
--- src/limits.rt:124:1
 returns-3 : tie.Need-returns-3
-returns-3 c = ?
+returns-3 c = later-given _ _ _ (c .before .before .asked .ensures) (c .before .if1 .left) (sym (recording-good _ (c .if2 .left)))
 
 pub refusal-spec : {M : Type 1} → statement M
 refusal-spec = tie.close (tie.spec asked-requires returns returns-2 returns-3)

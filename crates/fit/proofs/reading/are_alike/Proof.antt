@@ -1,17 +1,18 @@
+-- `fit::reading::are_alike` meets its contract. Assumes nothing.
+use mathlib.Core.Path.{ap}
+use Prim.Native.Nat.{ℕ}
+use lib.Dec.{leb}
+use Rattle.fit.specs.Reading.{alike}
 use borrow.Author.Needs.{needs}
 use Rattle.fit.proofs.reading.are_alike.Statement.{statement}
 use Rattle.fit.proofs.reading.are_alike.Tie as tie
-use Rattle.fit.proofs.reading.are_alike.Reads as reads
-use Rattle.fit.proofs.reading.are_alike.Lts as lts
-use Rattle.fit.proofs.reading.differ.Reads as differ-reads
 
--- src/reading.rt:24:5
 differ-requires : tie.Need-differ-requires
 differ-requires c κs = search needs
 
--- src/reading.rt:21:1
 returns : tie.Need-returns
-returns c = ?
+unfolding alike
+returns c = ap (λ (v : ℕ). leb v (c .before .args .k)) (c .differ .ensures .0)
 
 pub are-alike-spec : {M : Type 1} → statement M
 are-alike-spec = tie.close (tie.spec differ-requires returns)

@@ -1,32 +1,30 @@
+-- `fit::reading::least_near` meets its contract. Assumes nothing.
+use native.Mathlib.Omega.{arith}
+use Rattle.fit.specs.Reading.{lowest}
 use borrow.Author.Needs.{needs}
 use Rattle.fit.proofs.reading.least_near.Statement.{statement}
 use Rattle.fit.proofs.reading.least_near.Tie as tie
-use Rattle.fit.proofs.reading.least_near.Reads as reads
-use Rattle.fit.proofs.reading.least_near.Lts as lts
 
--- src/reading.rt:40:16
 cast-result : tie.Need-cast-result
 cast-result c = search needs
 
--- src/reading.rt:40:9
 returns : tie.Need-returns
-returns c = ?
+unfolding lowest
+returns c = omega arith
 
--- src/reading.rt:44:16
 cast-result-2 : tie.Need-cast-result-2
 cast-result-2 c = search needs
 
--- src/reading.rt:44:9
 returns-2 : tie.Need-returns-2
-returns-2 c = search needs
+unfolding lowest
+returns-2 c = omega arith
 
--- src/reading.rt:46:5
 cast-result-3 : tie.Need-cast-result-3
 cast-result-3 c = search needs
 
--- src/reading.rt:35:1
 returns-3 : tie.Need-returns-3
-returns-3 c = ?
+unfolding lowest
+returns-3 c = omega arith
 
 pub least-near-spec : {M : Type 1} → statement M
 least-near-spec =

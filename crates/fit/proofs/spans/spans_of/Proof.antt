@@ -1,115 +1,112 @@
+-- `fit::spans::spans_of` meets its contract: after i points the spans of the first i of them are laid. Assumes nothing.
+use mathlib.Core.Path.{_≡_, sym, _∙_}
+use Prim.Native.Nat.{ℕ, _≤_, _-_, _*_}
+use native.Mathlib.Omega.{arith}
+use lib.ListN.{length, take, replicate}
+use lib.Seq.{take-length}
+use borrow.Author.Needs.{needs}
+use Rattle.fit.specs.Listing.{overlay}
+use Rattle.fit.specs.Refusal.{maxPoints, maxDelta}
+use Rattle.fit.specs.Spans.{spansFor}
+use Rattle.fit.proofs.Laws.Compiled.{spans-none, spans-next}
 use Rattle.fit.proofs.spans.spans_of.Statement.{statement}
 use Rattle.fit.proofs.spans.spans_of.Tie as tie
-use Rattle.fit.proofs.spans.spans_of.Reads as reads
-use Rattle.fit.proofs.spans.spans_of.Lts as lts
-use Rattle.fit.proofs.spans.low_end.Reads as low-end-reads
-use Rattle.fit.proofs.spans.wide.Reads as wide-reads
 
 abbrev Inv-loop : tie.InvT-loop
-Inv-loop points delta d spans₀ i₀ spans i = ?
+Inv-loop points delta d spans₀ i₀ spans i = (i ≤ length points) × (length points ≤ maxPoints) × (delta ≤ maxDelta) × (spans ≡ overlay (spansFor delta (take i points)) (replicate (4 * maxPoints) 0))
 
 abbrev μ-loop : tie.MeasureT-loop
-μ-loop points delta d spans₀ i₀ spans i = ?
+μ-loop points delta d spans₀ i₀ spans i = length points - i
 
--- src/spans.rt:35:13
 cast-d : tie.Need-cast-d Inv-loop μ-loop
-cast-d c = ?
+cast-d c = omega arith
 
--- src/spans.rt:38:5
 loop-holds : tie.Need-loop-holds Inv-loop μ-loop
-loop-holds c = ?
+loop-holds c = (omega arith, omega arith, omega arith, spans-none _ (c .before .args .points .now) _)
 
--- src/spans.rt:39:22
 shared-slice-read-wide : tie.Need-shared-slice-read-wide Inv-loop μ-loop
-shared-slice-read-wide c = ?
+shared-slice-read-wide c = omega arith
 
--- src/spans.rt:39:13
 wide-requires : tie.Need-wide-requires Inv-loop μ-loop
-wide-requires c κs = ?
+wide-requires c κs = search needs
 
--- src/spans.rt:40:24
-low-end-requires : tie.Need-low-end-requires Inv-loop μ-loop
-low-end-requires c κs = ?
+shared-slice-read-least-near : tie.Need-shared-slice-read-least-near Inv-loop μ-loop
+shared-slice-read-least-near c = omega arith
 
--- src/spans.rt:40:15
+least-near-requires : tie.Need-least-near-requires Inv-loop μ-loop
+least-near-requires c κs = search needs
+
+wide-requires-2 : tie.Need-wide-requires-2 Inv-loop μ-loop
+wide-requires-2 c κs = search needs
+
 mul-spans : tie.Need-mul-spans Inv-loop μ-loop
-mul-spans c = ?
+mul-spans c = omega arith
 
--- src/spans.rt:40:9
 mul-spans-2 : tie.Need-mul-spans-2 Inv-loop μ-loop
-mul-spans-2 c = ?
+mul-spans-2 c = omega arith
 
--- src/spans.rt:40:9
 array-write-spans : tie.Need-array-write-spans Inv-loop μ-loop
-array-write-spans c = ?
+array-write-spans c = omega arith
 
--- src/spans.rt:41:28
 add-spans : tie.Need-add-spans Inv-loop μ-loop
-add-spans c = ?
+add-spans c = omega arith
 
--- src/spans.rt:41:15
 mul-spans-3 : tie.Need-mul-spans-3 Inv-loop μ-loop
-mul-spans-3 c = ?
+mul-spans-3 c = omega arith
 
--- src/spans.rt:41:15
 add-spans-2 : tie.Need-add-spans-2 Inv-loop μ-loop
-add-spans-2 c = ?
+add-spans-2 c = omega arith
 
--- src/spans.rt:41:9
 mul-spans-4 : tie.Need-mul-spans-4 Inv-loop μ-loop
-mul-spans-4 c = ?
+mul-spans-4 c = omega arith
 
--- src/spans.rt:41:9
 array-write-spans-2 : tie.Need-array-write-spans-2 Inv-loop μ-loop
-array-write-spans-2 c = ?
+array-write-spans-2 c = omega arith
 
--- src/spans.rt:42:15
 mul-spans-5 : tie.Need-mul-spans-5 Inv-loop μ-loop
-mul-spans-5 c = ?
+mul-spans-5 c = omega arith
 
--- src/spans.rt:42:15
 add-spans-3 : tie.Need-add-spans-3 Inv-loop μ-loop
-add-spans-3 c = ?
+add-spans-3 c = omega arith
 
--- src/spans.rt:42:9
 mul-spans-6 : tie.Need-mul-spans-6 Inv-loop μ-loop
-mul-spans-6 c = ?
+mul-spans-6 c = omega arith
 
--- src/spans.rt:42:9
 array-write-spans-3 : tie.Need-array-write-spans-3 Inv-loop μ-loop
-array-write-spans-3 c = ?
+array-write-spans-3 c = omega arith
 
--- src/spans.rt:43:15
 mul-spans-7 : tie.Need-mul-spans-7 Inv-loop μ-loop
-mul-spans-7 c = ?
+mul-spans-7 c = omega arith
 
--- src/spans.rt:43:15
 add-spans-4 : tie.Need-add-spans-4 Inv-loop μ-loop
-add-spans-4 c = ?
+add-spans-4 c = omega arith
 
--- src/spans.rt:43:9
 mul-spans-8 : tie.Need-mul-spans-8 Inv-loop μ-loop
-mul-spans-8 c = ?
+mul-spans-8 c = omega arith
 
--- src/spans.rt:43:9
 array-write-spans-4 : tie.Need-array-write-spans-4 Inv-loop μ-loop
-array-write-spans-4 c = ?
+array-write-spans-4 c = omega arith
 
--- src/spans.rt:44:9
 add-i : tie.Need-add-i Inv-loop μ-loop
-add-i c = ?
+add-i c = omega arith
 
--- src/spans.rt:38:5
 loop-less : tie.Need-loop-less Inv-loop μ-loop
-loop-less c = ?
+loop-less c = omega arith
 
--- src/spans.rt:38:5
 loop-again : tie.Need-loop-again Inv-loop μ-loop
-loop-again c = ?
+loop-again c =
+    let at-loop = c .before .before .before .before .before .before in (
+      omega arith,
+      omega arith,
+      omega arith,
+      spans-next _ _ _ _ _ _ _ (omega arith) (at-loop .loop .inv .3) (c .before .before .before .wide .ensures .0) (c .wide2 .ensures .0 ∙ c .before .least-near .ensures),
+    )
 
--- src/spans.rt:31:1
 returns : tie.Need-returns Inv-loop μ-loop
-returns c = ?
+returns c =
+    let points = c .before .before .before .args .points .now in
+    let e : c .before .loop .i ≡ length points = omega arith in
+    rw (← take-length points, ← e) (c .before .loop .inv .3)
 
 pub spans-of-spec : {M : Type 1} → statement M
 spans-of-spec =
@@ -121,7 +118,9 @@ spans-of-spec =
     loop-holds
     shared-slice-read-wide
     wide-requires
-    low-end-requires
+    shared-slice-read-least-near
+    least-near-requires
+    wide-requires-2
     mul-spans
     mul-spans-2
     array-write-spans

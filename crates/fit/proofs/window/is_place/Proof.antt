@@ -1,59 +1,58 @@
+-- `fit::window::is_place` meets its contract: the first i readings suit their points, and the sum is theirs (`Matched`). Assumes nothing.
+use mathlib.Core.Path.{sym, _∙_}
+use Prim.Native.Nat.{_≤_, _-_}
+use native.Mathlib.Omega.{arith}
+use Rattle.fit.specs.Spans.{ruleIn}
+use Rattle.fit.proofs.Laws.Rules.{Matched, matched-none, matched-more, matched-place, not-fit}
 use Rattle.fit.proofs.window.is_place.Statement.{statement}
 use Rattle.fit.proofs.window.is_place.Tie as tie
-use Rattle.fit.proofs.window.is_place.Reads as reads
-use Rattle.fit.proofs.window.is_place.Lts as lts
-use Rattle.fit.proofs.spans.cost.Reads as cost-reads
-use Rattle.fit.proofs.spans.suits.Reads as suits-reads
 
 abbrev Inv-loop : tie.InvT-loop
-Inv-loop spans m gamma recording s sum₀ i₀ sum i = ?
+Inv-loop spans m gamma recording s sum₀ i₀ sum i = (i ≤ m) × Matched (ruleIn spans) recording s i sum 65790
 
 abbrev μ-loop : tie.MeasureT-loop
-μ-loop spans m gamma recording s sum₀ i₀ sum i = ?
+μ-loop spans m gamma recording s sum₀ i₀ sum i = m - i
 
--- src/window.rt:27:5
 loop-holds : tie.Need-loop-holds Inv-loop μ-loop
-loop-holds c = ?
+loop-holds c = (omega arith, matched-none _ _ _ _)
 
--- src/window.rt:28:27
 add-a : tie.Need-add-a Inv-loop μ-loop
-add-a c = ?
+add-a c = omega arith
 
--- src/window.rt:28:17
 shared-slice-read-a : tie.Need-shared-slice-read-a Inv-loop μ-loop
-shared-slice-read-a c = ?
+shared-slice-read-a c = omega arith
 
--- src/window.rt:29:12
 suits-requires : tie.Need-suits-requires Inv-loop μ-loop
-suits-requires c κs = ?
+suits-requires c κs = omega arith
 
--- src/window.rt:30:20
 cost-requires : tie.Need-cost-requires Inv-loop μ-loop
-cost-requires c κs = ?
+cost-requires c κs = omega arith
 
--- src/window.rt:30:13
 add-sum : tie.Need-add-sum Inv-loop μ-loop
-add-sum c = ?
+add-sum c = omega arith
 
--- src/window.rt:31:13
 add-i : tie.Need-add-i Inv-loop μ-loop
-add-i c = ?
+add-i c = omega arith
 
--- src/window.rt:27:5
 loop-less : tie.Need-loop-less Inv-loop μ-loop
-loop-less c = ?
+loop-less c = omega arith
 
--- src/window.rt:27:5
 loop-again : tie.Need-loop-again Inv-loop μ-loop
-loop-again c = ?
+loop-again c =
+    let then = c .before in
+    let suited = then .before in
+    let at-loop = suited .before .before .before in
+    (omega arith, matched-more _ _ _ _ _ _ (at-loop .loop .inv .1) (sym (suited .suits .ensures) ∙ then .if1 .taken) (c .cost .ensures .0) (c .cost .ensures .1))
 
--- src/window.rt:33:13
 returns : tie.Need-returns Inv-loop μ-loop
-returns c = ?
+returns c =
+    let at-loop = c .before .before .before .before in
+    sym (not-fit _ _ _ _ _ (at-loop .loop .i) (omega arith) (sym (c .before .suits .ensures) ∙ c .if1 .left))
 
--- src/window.rt:21:1
 returns-2 : tie.Need-returns-2 Inv-loop μ-loop
-returns-2 c = ?
+returns-2 c =
+    let at-loop = c .before in
+    sym (matched-place _ _ _ _ _ _ (at-loop .loop .i) (at-loop .loop .sum) (omega arith) (omega arith) (at-loop .loop .inv .1))
 
 pub is-place-spec : {M : Type 1} → statement M
 is-place-spec =

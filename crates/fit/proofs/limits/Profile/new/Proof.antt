@@ -1,25 +1,23 @@
+-- `fit::limits::Profile::new` meets its contract: each return says which reason applied. Assumes nothing.
+use mathlib.Core.Path.{refl, sym, _∙_}
+use mathlib.Core.Logic.{inl, inr}
+use native.Mathlib.Omega.{arith}
+use Rattle.fit.proofs.Laws.Constructed.{profile-refused, profile-made}
 use borrow.Author.Needs.{needs}
 use Rattle.fit.proofs.limits.Profile.new.Statement.{statement}
 use Rattle.fit.proofs.limits.Profile.new.Tie as tie
-use Rattle.fit.proofs.limits.Profile.new.Reads as reads
-use Rattle.fit.proofs.limits.Profile.new.Lts as lts
-use Rattle.fit.proofs.limits.held_points.Reads as held-points-reads
 
--- src/limits.rt:72:13
 returns : tie.Need-returns
-returns c = ?
+returns c = (sym (profile-refused _ (inl (c .if1 .taken))), (refl, refl))
 
--- src/limits.rt:81:13
 returns-2 : tie.Need-returns-2
-returns-2 c = ?
+returns-2 c = (sym (profile-refused _ (inr (c .if2 .taken))), (refl, refl))
 
--- src/limits.rt:89:13
 held-points-requires : tie.Need-held-points-requires
 held-points-requires c κs = search needs
 
--- src/limits.rt:66:5
 returns-3 : tie.Need-returns-3
-returns-3 c = ?
+returns-3 c = (rw (c .held-points .ensures) (sym (profile-made _ (omega arith) (c .before .if2 .left))), (refl, refl))
 
 pub new-spec : {M : Type 1} → statement M
 new-spec = tie.close (tie.spec returns returns-2 held-points-requires returns-3)

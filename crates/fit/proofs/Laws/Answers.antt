@@ -1,0 +1,99 @@
+-- Laws of answers: refused, accepted, one window noted, and no second answer. Assumes nothing.
+use mathlib.Core.Path.{_≡_, refl, sym, ap, _∙_}
+use mathlib.Core.Bool.{Bool, true, false}
+use mathlib.Core.List.{List}
+use Prim.Native.Nat.{ℕ, zero, suc, _+_, _≤_}
+use native.Mathlib.Omega.{arith}
+use lib.ListN.{length, set}
+use Rattle.fit.specs.Rule.{Rule, isPlaceBy, SameRule}
+use Rattle.fit.specs.Place.{ruleOf, isPlace, windows}
+use Rattle.fit.specs.Refusal.{refusalOf, Accepted}
+use Rattle.fit.specs.Listing.{upTo}
+use Rattle.fit.specs.Answer.{Sought, soughtBy, soughtOf, all, Lent, lent, begun, outcome, filled, Answer, Answers, noted, listed, Noted}
+use Rattle.fit.specs.declared.answer.Search.{Search}
+use Rattle.fit.proofs.Laws.Listings.{up-same}
+use Rattle.fit.proofs.Laws.Rules.{same-place}
+use Rattle.fit.proofs.Laws.Refusals.{accepted, none-exactly}
+
+-- ---- a search that has begun
+begun-number : (num : ℕ) {r : Search} → r ≡ begun num → r .refusal ≡ num
+begun-number num e = ap (λ (r : Search). r .refusal) e
+
+-- is refused
+refused-by : (num : ℕ) (t : Sought) (tried : ℕ) (entry : Lent) → (num ≡ 0 → ⊥) → Answer num t tried entry (begun num) entry
+unfolding outcome filled
+refused-by zero t tried entry h = absurd (h refl)
+refused-by (suc num) t tried entry h = record { result = refl; lists = refl }
+
+pub refused : (num : ℕ) (t : Sought) (tried : ℕ) (entry : Lent) {r : Search} → r ≡ begun num → (r .refusal ≡ 0 → ⊥) → Answer num t tried entry r entry
+refused num t tried entry e h = rw e (refused-by num t tried entry (λ z. h (begun-number num e ∙ z)))
+
+-- or accepted
+none-refused : (num : ℕ) {r : Search} → r ≡ begun num → r .refusal ≡ 0 → num ≡ 0
+none-refused num e z = sym (begun-number num e) ∙ z
+
+pub begun-none : (num : ℕ) {r : Search} → r ≡ begun num → r .refusal ≡ 0 → r ≡ begun 0
+begun-none num e z = e ∙ ap begun (none-refused num e z)
+
+pub begun-accepted : (delta gamma : ℕ) (x y : List ℕ) {r : Search} → r ≡ begun (refusalOf delta gamma x y) → r .refusal ≡ 0 → Accepted delta gamma x y
+begun-accepted delta gamma x y e z = accepted delta gamma x y (none-refused (refusalOf delta gamma x y) e z)
+
+-- ---- the answer over spans is the answer for the profile: their rules ask the same
+same-sought : (num : ℕ) (t t′ : Sought) (tried : ℕ) {entry final : Lent} {r : Search} → all t ≡ all t′ → Answer num t tried entry r final → Answer num t′ tried entry r final
+unfolding outcome filled
+same-sought zero t t′ tried e a = record { result = rw e at (a .result); lists = rw e at (a .lists) }
+same-sought (suc num) t t′ tried e a = record { result = a .result; lists = a .lists }
+
+pub same-answer : (r′ : Rule) (delta gamma : ℕ) (x y : List ℕ) (tried : ℕ) {entry final : Lent} {r : Search} → Accepted delta gamma x y
+    → SameRule (length x) r′ (ruleOf delta x) → Answer 0 (soughtBy r′ (length x) gamma y) tried entry r final → Answers delta gamma x y tried entry r final
+unfolding isPlace
+same-answer r′ delta gamma x y tried ok q a =
+    rw (none-exactly delta gamma x y .1 ok)
+    (same-sought 0 (soughtBy r′ (length x) gamma y) (soughtOf delta gamma x y) tried
+    (up-same (isPlaceBy r′ (length x) gamma y) (isPlace delta gamma x y) (windows (length x) (length y))
+    (λ s l. same-place (length x) r′ (ruleOf delta x) q gamma y s))
+    a)
+
+-- ---- no second answer satisfies the statement
+pub only-answer : (num : ℕ) (t : Sought) (tried : ℕ) (entry : Lent) (r r′ : Search) (l l′ : Lent)
+    → Answer num t tried entry r l → Answer num t tried entry r′ l′ → (r ≡ r′) × (l ≡ l′)
+only-answer num t tried entry r r′ l l′ a b = (a .result ∙ sym (b .result), a .lists ∙ sym (b .lists))
+
+pub no-second-answer : (delta gamma : ℕ) (x y : List ℕ) (tried : ℕ) (entry : Lent) (r r′ : Search) (l l′ : List ℕ)
+    → Answers delta gamma x y tried entry r (lent l) → Answers delta gamma x y tried entry r′ (lent l′) → (r ≡ r′) × (l ≡ l′)
+no-second-answer delta gamma x y tried entry r r′ l l′ a b =
+    let same = only-answer _ _ tried entry r r′ (lent l) (lent l′) a b in
+    (same .0, ap (λ (v : Lent). v .list) (same .1))
+
+-- ---- one window
+pub noted-hit : (hit : Bool) (s : ℕ) (before : Search) (entry : Lent) {list : List ℕ} → hit ≡ true → list ≡ set (entry .list) (before .total) s
+    → Noted hit s before entry (record { refusal = before .refusal; total = before .total + 1; tried = before .tried + 1 }) (lent list)
+unfolding noted listed
+noted-hit hit s before entry e f = record { counts = rw e; lists = rw (e, f) }
+
+pub noted-miss : (hit : Bool) (s : ℕ) (before : Search) (entry : Lent) → hit ≡ false
+    → Noted hit s before entry (record { refusal = before .refusal; total = before .total; tried = before .tried + 1 }) entry
+unfolding noted listed
+noted-miss hit s before entry e = record { counts = rw e; lists = rw e }
+
+-- a window that was noted by a test's value was noted by the test
+pub noted-as : (b b′ : Bool) (s : ℕ) (before : Search) (entry : Lent) {r : Search} {final : Lent}
+    → b ≡ b′ → Noted b s before entry r final → Noted b′ s before entry r final
+noted-as b b′ s before entry e h = rw e at h
+
+-- no second result of a noted window
+pub no-second-note : (hit : Bool) (s : ℕ) (before : Search) (entry : Lent) (r r′ : Search) (l l′ : List ℕ)
+    → Noted hit s before entry r (lent l) → Noted hit s before entry r′ (lent l′) → (r ≡ r′) × (l ≡ l′)
+no-second-note hit s before entry r r′ l l′ a b =
+    (a .counts ∙ sym (b .counts), ap (λ (v : Lent). v .list) (a .lists ∙ sym (b .lists)))
+
+-- what one window adds to the counts
+pub tried-one : (b : Bool) (r : Search) → noted b r .tried ≡ r .tried + 1
+unfolding noted
+tried-one true r = refl
+tried-one false r = refl
+
+pub order-one : (b : Bool) (r : Search) → r .total ≤ r .tried → noted b r .total ≤ noted b r .tried
+unfolding noted
+order-one true r h = omega arith
+order-one false r h = omega arith
