@@ -16,8 +16,11 @@ use Rattle.fit.specs.Place.{ruleOf}
 use Rattle.fit.specs.Listing.{overlay}
 use Rattle.fit.specs.Refusal.{maxPoints, maxReadings, Accepted}
 use Rattle.fit.specs.Spans.{spanFits, ruleIn, spanOf, spansFor, spansOf, Ready}
+use Rattle.fit.specs.Answer.{soughtBy, Lent, Answer, Answers}
+use Rattle.fit.specs.declared.answer.Search.{Search}
 use Rattle.fit.proofs.Laws.Bools.{and-left, and-right, and-both, same-test}
 use Rattle.fit.proofs.Laws.Readings.{near-le, near-lowest, le-near}
+use Rattle.fit.proofs.Laws.Answers.{same-answer}
 use Rattle.fit.proofs.Laws.Listings.{overlay-none, overlay-more, length-overlay, overlay-at}
 
 -- ---- four numbers a point
@@ -105,19 +108,29 @@ span-near delta p a =
     (le-leb (max lowest (p - delta)) a (omega (arith, near-le delta p a t, near-lowest delta p a t)))
     (le-leb a (p + delta) (omega (arith, near-le delta p a t))))
 
-pub same-rule : (delta : ℕ) (x : List ℕ) → length x ≤ maxPoints → SameRule (length x) (ruleIn (spansOf delta x)) (ruleOf delta x)
+same-rule : (delta : ℕ) (x : List ℕ) → length x ≤ maxPoints → SameRule (length x) (ruleIn (spansOf delta x)) (ruleOf delta x)
 same-rule delta x few = record {
   same-fit =
       λ i a l. rw (rw add-zero at (laid-at delta x i 0 few l (omega arith)), laid-at delta x i 1 few l (omega arith)) (span-near delta (getD x i 0) a);
   same-cost = λ i a l e. rw (laid-at delta x i 2 few l (omega arith), laid-at delta x i 3 few l (omega arith));
 }
 
--- an accepted search is ready to go over the spans
-pub ready : (delta gamma : ℕ) (x y : List ℕ) → Accepted delta gamma x y → Ready (spansOf delta x) (length x) gamma (length y)
-ready delta gamma x y ok = record {
-  some = ok .asked .some;
-  few = ok .asked .few;
-  full = omega (arith, ok .asked .few, length-overlay (spansFor delta x) (replicate (4 * maxPoints) 0), length-replicate {A = ℕ} (4 * maxPoints) 0);
-  gamma-small = ok .asked .gamma-small;
-  short = ok .short;
-}
+-- ---- a search that is accepted and compiled: it is ready to go over the spans, and what it answers there is its answer
+module _ (delta gamma : ℕ) (x y spans : List ℕ) (made : spans ≡ spansOf delta x) (ok : Accepted delta gamma x y) where
+  pub ready : Ready spans (length x) gamma (length y)
+  ready =
+      let long = ap length made ∙ length-overlay (spansFor delta x) (replicate (4 * maxPoints) 0) in
+      record {
+        some = ok .asked .some;
+        few = ok .asked .few;
+        full = omega (arith, ok .asked .few, long, length-replicate {A = ℕ} (4 * maxPoints) 0);
+        gamma-small = ok .asked .gamma-small;
+        short = ok .short;
+      }
+
+  pub compiled-rule : SameRule (length x) (ruleIn spans) (ruleOf delta x)
+  compiled-rule = rw made (same-rule delta x (ok .asked .few))
+
+  pub compiled-answer : (tried tried′ : ℕ) {entry final : Lent} {r : Search} → tried ≡ tried′
+      → Answer 0 (soughtBy (ruleIn spans) (length x) gamma y) tried entry r final → Answers delta gamma x y tried′ entry r final
+  compiled-answer tried tried′ e a = rw (← e) (same-answer (ruleIn spans) delta gamma x y tried ok compiled-rule a)

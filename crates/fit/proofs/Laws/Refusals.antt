@@ -96,10 +96,12 @@ spares-tolerance delta gamma x ok (inr h) = omega (arith, ok .gamma-small)
 -- the three ways of a question, each with its number
 module _ (delta gamma : ℕ) (x : List ℕ) where
   asked-one : BadProfile x → askedOf delta gamma x ≡ 1
+  unfolding askedOf
   asked-one b = else-first (ofProfile x) 0 (ofTolerance delta gamma) (profile-bad x b)
 
   asked-ways : (BadProfile x × (askedOf delta gamma x ≡ 1))
       ⊎ (((BadProfile x → ⊥) × BadTolerance delta gamma × (askedOf delta gamma x ≡ 2)) ⊎ (Asked delta gamma x × (askedOf delta gamma x ≡ 0)))
+  unfolding askedOf
   asked-ways =
       ⊎-elim (λ b. inl (b, asked-one b))
       (λ g. let past = else-later (ofProfile x) (ofTolerance delta gamma) (profile-good x (g .0) (g .1)) in
@@ -118,6 +120,7 @@ module _ (delta gamma : ℕ) (x : List ℕ) where
       asked-ways
 
   pub accepted-asked : Asked delta gamma x → askedOf delta gamma x ≡ 0
+  unfolding askedOf
   accepted-asked ok =
       else-later (ofProfile x) (ofTolerance delta gamma) (profile-good x (ok .some) (ok .few)) ∙ tolerance-good delta gamma (ok .delta-small) (ok .gamma-small)
 
@@ -128,12 +131,14 @@ asked-real delta gamma x ok i h = any-reading (getD x i 0)
 -- ---- the table: each number of a search exactly when
 module _ (delta gamma : ℕ) (x y : List ℕ) where
   later : Asked delta gamma x → refusalOf delta gamma x y ≡ ofRecording y
+  unfolding refusalOf
   later ok = else-later (askedOf delta gamma x) (ofRecording y) (accepted-asked delta gamma x ok)
 
   -- the four ways of a search, each with its number
   pub ways : (BadProfile x × (refusalOf delta gamma x y ≡ 1))
       ⊎ (((BadProfile x → ⊥) × BadTolerance delta gamma × (refusalOf delta gamma x y ≡ 2))
       ⊎ ((Asked delta gamma x × BadRecording y × (refusalOf delta gamma x y ≡ 3)) ⊎ (Accepted delta gamma x y × (refusalOf delta gamma x y ≡ 0))))
+  unfolding refusalOf
   ways =
       ⊎-elim (λ w. inl (w .0, else-first (askedOf delta gamma x) 0 (ofRecording y) (w .1)))
       (λ v. inr

@@ -2,6 +2,7 @@
 use mathlib.Core.Path.{_≡_, ap, _∙_}
 use Rattle.fit.specs.declared.limits.MadeProfile.{MadeProfile}
 use Rattle.fit.specs.declared.limits.MadeTolerance.{MadeTolerance}
+use Rattle.fit.specs.Refusal.{askedOf}
 use Rattle.fit.proofs.Laws.Refusals.{first-given, later-given}
 use Rattle.fit.proofs.Laws.Constructed.{profile-refusal, tolerance-refusal}
 use borrow.Author.Needs.{needs}
@@ -12,6 +13,7 @@ new-requires : tie.Need-new-requires
 new-requires c κs = search needs
 
 returns : tie.Need-returns
+unfolding askedOf
 returns c =
     let made = c .before .before in
     first-given _ _ _ (ap (λ (r : MadeProfile). r .refusal) (made .new .ensures .0) ∙ profile-refusal _) (c .if1 .taken)
@@ -20,6 +22,7 @@ new-requires-2 : tie.Need-new-requires-2
 new-requires-2 c κs = search needs
 
 returns-2 : tie.Need-returns-2
+unfolding askedOf
 returns-2 c =
     let past = c .before in
     let made = past .before .before in
