@@ -10,3 +10,4 @@ pub mod Compiled
 pub mod Steps
 pub mod Answers
 pub mod Alongs
+pub mod Uniques

@@ -3,7 +3,7 @@ ghost use mathlib.Core.Path.{_≡_};
 ghost use Prim.Native.Nat.{_+_, _-_, _*_, _≤_, _<_};
 ghost use lib.ListN.{length};
 ghost use Rattle.fit.specs.Refusal.{maxPoints, maxDelta};
-ghost use Rattle.fit.specs.Rule.{Rule};
+ghost use Rattle.fit.specs.Rule.{Rule, nearBy};
 ghost use Rattle.fit.specs.Spans.{spanFits, spanCost, ruleIn, spansOf};
 
 fn wide(a: u8) -> u16
@@ -55,7 +55,7 @@ fn span_cost(from: u16, to: u16, a: u8) -> u32
 }
 
 // Whether reading a suits point i.
-pub fn suits(spans: &[u16], i: usize, a: u8) -> bool
+pub(crate) fn suits(spans: &[u16], i: usize, a: u8) -> bool
     requires { ⌜ 4 * i + 3 < length (now spans) ⌝ }
     ensures { λ r. ⌜ r ≡ ruleIn (now (spans .entry)) .fit i a ⌝ }
 {
@@ -63,9 +63,20 @@ pub fn suits(spans: &[u16], i: usize, a: u8) -> bool
 }
 
 // What reading a adds to the sum at point i.
-pub fn cost(spans: &[u16], i: usize, a: u8) -> u32
+pub(crate) fn cost(spans: &[u16], i: usize, a: u8) -> u32
     requires { ⌜ 4 * i + 3 < length (now spans) ⌝ }
     ensures { λ r. ⌜ (r ≡ ruleIn (now (spans .entry)) .cost i a) × (r ≤ 65790) ⌝ }
 {
     span_cost(spans[4 * i + 2], spans[4 * i + 3], a)
+}
+
+// Whether reading a may stand at point i of a place.
+pub fn may_stand(spans: &[u16], gamma: u32, i: usize, a: u8) -> bool
+    requires { ⌜ 4 * i + 3 < length (now spans) ⌝ }
+    ensures { λ r. ⌜ r ≡ nearBy (ruleIn (now (spans .entry))) gamma i a ⌝ }
+{
+    if suits(spans, i, a) {
+        return cost(spans, i, a) <= gamma;
+    }
+    false
 }

@@ -124,6 +124,10 @@ module _ (r : Rule) (y : List ℕ) (s each : ℕ) where
   unfolding isPlaceBy
   matched-place m gamma k sum inside e f = rw (le-leb (s + m) (length y) inside, ← e, f .fits, ← f .sums)
 
+-- ---- whether a reading that suits may stand at a point: its cost decides
+pub stands-by-cost : (fit fit′ : Bool) (cost cost′ gamma : ℕ) → fit ≡ fit′ → fit ≡ true → cost ≡ cost′ → leb cost gamma ≡ (fit′ && leb cost′ gamma)
+stands-by-cost fit fit′ cost cost′ gamma e t f = rw (← e, ← f, t)
+
 -- ---- two rules that ask the same
 same-back : (m : ℕ) (r r′ : Rule) → SameRule m r r′ → SameRule m r′ r
 same-back m r r′ q = record {
