@@ -1,0 +1,5 @@
+pub mod Leasts
+pub mod Nears
+pub mod Frame
+pub mod Single
+pub mod Several
