@@ -6,3 +6,5 @@ pub mod Several
 pub mod Conditions
 pub mod OneReading
 pub mod Demands
+pub mod Sizes
+pub mod Keeps

@@ -39,6 +39,13 @@ pub record Reaches (IsPlace Evidence : List ℕ → ℕ → Type 0) (k : ℕ) : 
   pub evidence : Evidence y s
   pub place : IsPlace y (landing s k)
 
+-- evidence can occur: some recording has it
+pub record Occurs (Evidence : List ℕ → ℕ → Type 0) : Type 0 where
+  pub y : List ℕ
+  pub s : ℕ
+  pub readings : Readings y
+  pub evidence : Evidence y s
+
 -- ---- the evidence of each rule
 -- "the window's last reading is a"
 abbrev pub LastIs : ℕ → ℕ → List ℕ → ℕ → Type 0

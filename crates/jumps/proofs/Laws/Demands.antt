@@ -17,11 +17,11 @@ use Rattle.fit.proofs.Laws.Places.{place-test, test-place, near-derived}
 use Rattle.fit.proofs.Laws.Refusals.{asked-real}
 use Rattle.jumps.specs.Least.{least}
 use Rattle.jumps.specs.Jumps.{lastJump, nextJump, afterJump, lonely, loneAt, earlier, agreesAt, mismatchAt, mismatchJump, fullAt, fullJump, somewhereFar}
-use Rattle.jumps.specs.Demand.{Readings, Seen, NotTooLong, Reaches, LastIs, NextIs, LastNear, MismatchedAt, Mismatch, AllNear}
+use Rattle.jumps.specs.Demand.{Readings, Passed, Seen, NotTooLong, Reaches, Occurs, LastIs, NextIs, LastNear, MismatchedAt, Mismatch, AllNear}
 use Rattle.jumps.proofs.Laws.Nears.{NearBoth, near-both, both-near, NearOnly, lonely-is, is-lonely, Far, somewhere-is, is-somewhere}
 use Rattle.jumps.proofs.Laws.Conditions.{lone-is, is-lone, not-before-itself, agrees-is, is-agreed, mismatch-lone, mismatch-agrees, is-mismatch, full-is, is-full}
-use Rattle.jumps.proofs.Laws.Frame.{Home, Some, Meet, PlaceBy, long-as, reaches-as}
-use Rattle.jumps.proofs.Laws.Single.{single-long, single-short}
+use Rattle.jumps.proofs.Laws.Frame.{Home, Some, Meet, PlaceBy, occurs, long-as, reaches-as}
+use Rattle.jumps.proofs.Laws.Single.{single-passes, single-short}
 use Rattle.jumps.proofs.Laws.Several.{Meets, several-long, several-short}
 use Rattle.jumps.proofs.Laws.OneReading.{last-same, next-same, last-by-not-too-long, next-by-not-too-long, last-by-reaches, next-by-reaches}
 
@@ -77,14 +77,17 @@ module _ (delta gamma : ℕ) (x : List ℕ) (asked : Asked delta gamma x) where
   next-reading-not-too-long a =
       long (NextIs m a) 1 _ _ (next-same (nearBy rule gamma) (fitOf d x) m a (same a)) (next-by-not-too-long rule m gamma (asked .some) a)
 
-  alike-last : (i : ℕ) → i < m - 1 → Meet rule gamma i (λ c. near d (at last) c ≡ true) → alike (2 * d) (at i) (at last) ≡ true
-  alike-last i l k = both-near d (at i) (at last) (k .c) (near-of i (k .c) (k .near)) (k .seen)
+  alike-last : (i c : ℕ) → i < m - 1 → near d (at last) c ≡ true → nearBy rule gamma i c ≡ true → alike (2 * d) (at i) (at last) ≡ true
+  alike-last i c l e n = both-near d (at i) (at last) c (near-of i c n) e
+
+  -- whatever values the recording has
+  pub after-check-passes : (y : List ℕ) (s t : ℕ) → LastNear (dOf delta gamma) x y s → Passed 1 (afterJump (dOf delta gamma) x) s t → Place delta gamma x y t → ⊥
+  after-check-passes y s t e p place =
+      single-passes rule m gamma last m (m - 1) 1 m (λ c. near d (at last) c ≡ true) (λ i. alike (2 * d) (at i) (at last))
+      (omega (arith, asked .some)) (omega arith) (omega (arith, asked .some)) (omega (arith, asked .some)) alike-last y s t e p (by-place y t place)
 
   pub after-check-not-too-long : NotTooLong (Place delta gamma x) (LastNear (dOf delta gamma) x) 1 (afterJump (dOf delta gamma) x)
-  after-check-not-too-long =
-      long (LastNear d x) 1 (afterJump d x) (afterJump d x) refl
-      (single-long rule m gamma last m (m - 1) 1 m (λ c. near d (at last) c ≡ true) (λ i. alike (2 * d) (at i) (at last))
-      (omega (arith, asked .some)) (omega arith) (omega (arith, asked .some)) (omega (arith, asked .some)) alike-last)
+  after-check-not-too-long y s t rd = after-check-passes y s t
 
   full-sound : (k : ℕ) → Meets rule m gamma (asked .some) (λ q c. near d (at q) c ≡ true) (fullAt d x) k → fullAt d x k ≡ true
   full-sound k ms = is-full d x k (λ i l.
@@ -165,6 +168,29 @@ module _ (delta gamma : ℕ) (x : List ℕ) (asked : Asked delta gamma x) where
         (λ i l e. meet-both last i (omega (arith, asked .some)) (omega arith) e)
         (record { c = at last; byte = bytes last; seen = self last (omega (arith, asked .some)) }))
 
+    -- ---- the mismatch jump's evidence: a reading for position q where it is not p
+    module _ (p : ℕ) where
+      other : (q c : ℕ) → (q ≡ p → ⊥) → (earlier d x q p ≡ true → near d (at q) c ≡ true) → MismatchedAt d x p q c
+      other q c n f = record { earlier-near = f; itself-far = λ e. absurd (n e) }
+
+      -- and where it is
+      at-p : (q c : ℕ) → q ≡ p → near d (at p) c ≡ false → MismatchedAt d x p q c
+      at-p q c e f = record {
+        earlier-near = λ h. absurd (not-before-itself d x p (subst (λ (j : ℕ). earlier d x j p ≡ true) e h));
+        itself-far = λ e′. subst (λ (j : ℕ). near d (at j) c ≡ false) (sym e) f;
+      }
+
+      any-of : Far d (at p) → (q : ℕ) → q < m → Some (MismatchedAt d x p q)
+      any-of f q l = go (ℕ-discrete q p)
+        where
+          go : Dec (q ≡ p) → Some (MismatchedAt d x p q)
+          go (yes e) = record { c = f .c; byte = f .byte; seen = at-p q (f .c) e (f .far) }
+          go (no e) = record { c = at q; byte = bytes q; seen = other q (at q) e (λ h. self q l) }
+
+      -- where some reading is not near x[p], the evidence can occur
+      pub mismatch-can-occur : somewhereFar (dOf delta gamma) (getD x p 0) ≡ true → Occurs (Mismatch (dOf delta gamma) x p)
+      mismatch-can-occur can = occurs (MismatchedAt d x p) m (any-of (somewhere-is d (at p) can))
+
     -- what may stand at a point costs at most d
     most : (i a : ℕ) → nearBy rule gamma i a ≡ true → diff (at i) a ≤ d
     most i a e = near-le d (at i) a (near-of i a e)
@@ -184,17 +210,6 @@ module _ (delta gamma : ℕ) (x : List ℕ) (asked : Asked delta gamma x) where
           (λ q l. record { c = at q; byte = bytes q; seen = self q l }) d most wide)
 
       module _ (p : ℕ) (point : p < length x) where
-        -- a reading for position q of the evidence, where it is not p
-        other : (q c : ℕ) → (q ≡ p → ⊥) → (earlier d x q p ≡ true → near d (at q) c ≡ true) → MismatchedAt d x p q c
-        other q c n f = record { earlier-near = f; itself-far = λ e. absurd (n e) }
-
-        -- and where it is
-        at-p : (q c : ℕ) → q ≡ p → near d (at p) c ≡ false → MismatchedAt d x p q c
-        at-p q c e f = record {
-          earlier-near = λ h. absurd (not-before-itself d x p (subst (λ (j : ℕ). earlier d x j p ≡ true) e h));
-          itself-far = λ e′. subst (λ (j : ℕ). near d (at j) c ≡ false) (sym e) f;
-        }
-
         mismatch-meets : (k : ℕ) → mismatchAt d x p k ≡ true → Meets rule m gamma (asked .some) (MismatchedAt d x p) (mismatchAt d x p) k
         mismatch-meets k t i l = go (ℕ-discrete (k + i) p)
           where
@@ -203,17 +218,17 @@ module _ (delta gamma : ℕ) (x : List ℕ) (asked : Asked delta gamma x) where
                 let s : p - k ≡ i = omega arith in
                 let n = lonely-is d (at i) (at p)
                 (subst (λ (j : ℕ). lonely d (at p) (at j) ≡ true) s (lone-is d x p k (mismatch-lone d x p k t) (omega arith))) in
-                record { c = n .c; byte = n .byte; seen = at-p (k + i) (n .c) e (n .not-other); near = of-near i (n .c) (n .near-one) }
+                record { c = n .c; byte = n .byte; seen = at-p p (k + i) (n .c) e (n .not-other); near = of-near i (n .c) (n .near-one) }
             go (no e) = ⊎-elim
                 (λ (h : earlier d x (k + i) p ≡ true).
                 let s : k + i - k ≡ i = omega arith in
                 let n = meet-both (k + i) i l (omega arith) (subst (λ (j : ℕ). alike (2 * d) (at j) (at (k + i)) ≡ true) s
                 (agrees-is d x k (k + i) (mismatch-agrees d x p k t (k + i) l h) (omega arith))) in
-                record { c = n .c; byte = n .byte; seen = other (k + i) (n .c) e (λ h′. n .seen); near = n .near })
+                record { c = n .c; byte = n .byte; seen = other p (k + i) (n .c) e (λ h′. n .seen); near = n .near })
                 (λ (h : earlier d x (k + i) p ≡ false). record {
                   c = at i;
                   byte = bytes i;
-                  seen = other (k + i) (at i) e (λ h′. absurd (not-both h′ h));
+                  seen = other p (k + i) (at i) e (λ h′. absurd (not-both h′ h));
                   near = of-near i (at i) (self i (omega arith));
                 })
                 (either (earlier d x (k + i) p))
@@ -225,10 +240,4 @@ module _ (delta gamma : ℕ) (x : List ℕ) (asked : Asked delta gamma x) where
         mismatch-reaches can =
             reaches (Mismatch d x p) (mismatchJump d x p) (mismatchJump d x p) refl
             (several-short rule m gamma (asked .some) (MismatchedAt d x p) (mismatchAt d x p) (mismatch-sound p point) homes mismatch-meets
-            (λ q l. any q l (ℕ-discrete q p)) d most wide)
-          where
-            any : (q : ℕ) → q < m → Dec (q ≡ p) → Some (MismatchedAt d x p q)
-            any q l (yes e) =
-                let f = somewhere-is d (at p) can in
-                record { c = f .c; byte = f .byte; seen = at-p q (f .c) e (f .far) }
-            any q l (no e) = record { c = at q; byte = bytes q; seen = other q (at q) e (λ h. self q l) }
+            (any-of p (somewhere-is d (at p) can)) d most wide)

@@ -6,14 +6,14 @@ use mathlib.Core.Logic.{⊎-elim}
 use mathlib.Core.List.{List, [], _∷_}
 use native.Mathlib.Nat.{le-of-suc-le-suc, not-suc-le-zero}
 use native.Mathlib.Numerals.{add-one}
-use native.Mathlib.Decide.{ℕ-discrete}
+use native.Mathlib.Decide.{decLt, ℕ-discrete}
 use native.Mathlib.Omega.{arith}
 use lib.ListN.{length, getD}
 use Rattle.fit.specs.Reading.{highest}
 use Rattle.fit.specs.Rule.{Rule, readingAt, sumCost, isPlaceBy, nearBy}
 use Rattle.fit.proofs.Laws.Bools.{le-or-lt}
 use Rattle.fit.proofs.Laws.Rules.{fit-all, sum-none, sum-more, sum-bound, by-is, by-near}
-use Rattle.jumps.specs.Demand.{Readings, landing, Passed, Seen, NotTooLong, Reaches}
+use Rattle.jumps.specs.Demand.{Readings, landing, Passed, Seen, NotTooLong, Reaches, Occurs}
 
 -- ---- a recording from a function
 unfoldable pub tab : (ℕ → ℕ) → ℕ → List ℕ
@@ -78,14 +78,9 @@ module _ (r : Rule) (m gamma : ℕ) where
 
   module _ (P : ℕ → ℕ → Type 0) (w : ℕ) where
     -- clash: the reading that is at position q of the evidence and at point i of the place is as both say
-    pub clash : (y : List ℕ) (s t q i : ℕ) → Readings y → Seen P w y s → isPlaceBy r m gamma y t ≡ true → s + q ≡ t + i → q < w → i < m
-        → Meet r gamma i (P q)
-    clash y s t q i rd e p at l h = record {
-      c = readingAt y s q;
-      byte = rd (s + q);
-      seen = e .each q l;
-      near = subst (λ (j : ℕ). nearBy r gamma i (getD y j 0) ≡ true) (sym at) (by-near r m gamma y t p i h);
-    }
+    pub clash : (y : List ℕ) (s t q i : ℕ) → Seen P w y s → isPlaceBy r m gamma y t ≡ true → s + q ≡ t + i → q < w → i < m
+        → P q (readingAt y s q) × (nearBy r gamma i (readingAt y s q) ≡ true)
+    clash y s t q i e p at l h = (e .each q l, subst (λ (j : ℕ). nearBy r gamma i (getD y j 0) ≡ true) (sym at) (by-near r m gamma y t p i h))
 
     -- built: readings c that are as the evidence says, and suit at k with a sum of at most gamma, make a recording
     pub built : (c : ℕ → ℕ) (k : ℕ) → ((q : ℕ) → c q ≤ highest) → ((q : ℕ) → q < w → P q (c q))
@@ -117,6 +112,33 @@ module _ (r : Rule) (m gamma : ℕ) where
         on : (i : ℕ) → i < m → readingAt y (landing 0 k) i ≡ c (k + i)
         on i l = at (landing 0 k + i) (k + i) (omega arith) (omega arith)
 
+-- evidence that allows a reading at each position can occur
+pub occurs : (P : ℕ → ℕ → Type 0) (w : ℕ) → ((q : ℕ) → q < w → Some (P q)) → Occurs (Seen P w)
+occurs P w any = record {
+  y = tab c w;
+  s = 0;
+  readings = tab-readings c w (λ q. byte q (decLt q w));
+  evidence = record {
+    inside = omega (arith, length-tab c w);
+    each = λ q l. let e : 0 + q ≡ q = omega arith in subst (P q) (sym (ap (λ (i : ℕ). getD (tab c w) i 0) e ∙ tab-at c w q l)) (seen q l (decLt q w));
+  };
+}
+  where
+    pick : (q : ℕ) → Dec (q < w) → ℕ
+    pick q (yes l) = any q l .c
+    pick q (no n) = 0
+
+    c : ℕ → ℕ
+    c q = pick q (decLt q w)
+
+    byte : (q : ℕ) (b : Dec (q < w)) → pick q b ≤ highest
+    byte q (yes l) = any q l .byte
+    byte q (no n) = zero-le
+
+    seen : (q : ℕ) → q < w → (b : Dec (q < w)) → P q (pick q b)
+    seen q l (yes l′) = any q l′ .seen
+    seen q l (no n) = absurd (n l)
+
 -- ---- the two halves, of any kind of place and evidence
 -- both hold of places said otherwise
 pub long-as : (A B E : List ℕ → ℕ → Type 0) (from k : ℕ) → ((y : List ℕ) (t : ℕ) → B y t → A y t) → NotTooLong A E from k → NotTooLong B E from k
@@ -125,6 +147,10 @@ long-as A B E from k f h y s t rd e p b = h y s t rd e p (f y t b)
 pub reaches-as : (A B E : List ℕ → ℕ → Type 0) (k : ℕ) → ((y : List ℕ) (t : ℕ) → A y t → B y t) → Reaches A E k → Reaches B E k
 reaches-as A B E k f h =
     record { y = h .y; s = h .s; readings = h .readings; evidence = h .evidence; place = f (h .y) (landing (h .s) k) (h .place) }
+
+-- a jump that does not pass t does not go beyond it
+pub not-beyond : (from k s t : ℕ) → (Passed from k s t → ⊥) → s + from ≤ t → s + k ≤ t
+not-beyond from k s t h l = ⊎-elim (λ (b : s + k ≤ t). b) (λ (b : t < s + k). absurd (h (record { since = l; before = b }))) (le-or-lt (s + k) t)
 
 -- no second number has both halves
 pub no-second-jump : (IsPlace E : List ℕ → ℕ → Type 0) (from j k : ℕ) → from ≤ j → from ≤ k

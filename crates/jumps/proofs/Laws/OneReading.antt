@@ -2,15 +2,16 @@
 use Prim.Native.Nat.{ℕ, suc, _+_, _-_, _≤_, _<_}
 use mathlib.Core.Path.{_≡_, refl, ap, subst}
 use mathlib.Core.Bool.{Bool, true}
+use mathlib.Core.List.{List}
 use native.Mathlib.Omega.{arith}
 use Rattle.fit.specs.Reading.{highest}
 use Rattle.fit.specs.Rule.{Rule, nearBy}
 use Rattle.jumps.specs.Least.{greatest}
 use Rattle.jumps.specs.Jumps.{lastJump, nextJump}
-use Rattle.jumps.specs.Demand.{LastIs, NextIs, NotTooLong, Reaches}
+use Rattle.jumps.specs.Demand.{Passed, LastIs, NextIs, NotTooLong, Reaches}
 use Rattle.jumps.proofs.Laws.Leasts.{greatest-same}
 use Rattle.jumps.proofs.Laws.Frame.{Home, Some, Meet, PlaceBy}
-use Rattle.jumps.proofs.Laws.Single.{single-long, single-short}
+use Rattle.jumps.proofs.Laws.Single.{single-passes, single-short}
 
 -- rules that find the same readings near have the same jumps
 module _ (near near′ : ℕ → ℕ → Bool) (m a : ℕ) (same : (i : ℕ) → i < m → near i a ≡ near′ i a) where
@@ -21,16 +22,23 @@ module _ (near near′ : ℕ → ℕ → Bool) (m a : ℕ) (same : (i : ℕ) →
   next-same = ap (λ (g : ℕ). m + 1 - g) (greatest-same (λ i. near i a) (λ i. near′ i a) m same)
 
 module _ (r : Rule) (m gamma : ℕ) (some : 1 ≤ m) (a : ℕ) where
-  stands : (i : ℕ) → i < m → Meet r gamma i (λ c. c ≡ a) → nearBy r gamma i a ≡ true
-  stands i l k = subst (λ (c : ℕ). nearBy r gamma i c ≡ true) (k .seen) (k .near)
+  stands : (i c : ℕ) → i < m → c ≡ a → nearBy r gamma i c ≡ true → nearBy r gamma i a ≡ true
+  stands i c l e n = subst (λ (c : ℕ). nearBy r gamma i c ≡ true) e n
+
+  -- whatever values the recording has
+  pub last-by-passes : (y : List ℕ) (s t : ℕ) → LastIs m a y s → Passed 0 (lastJump (nearBy r gamma) m a) s t → PlaceBy r m gamma y t → ⊥
+  last-by-passes =
+      single-passes r m gamma (m - 1) m m 0 m (λ c. c ≡ a) (λ i. nearBy r gamma i a) (omega arith) (omega arith) (omega arith) (omega arith) stands
+
+  pub next-by-passes : (y : List ℕ) (s t : ℕ) → NextIs m a y s → Passed 1 (nextJump (nearBy r gamma) m a) s t → PlaceBy r m gamma y t → ⊥
+  next-by-passes =
+      single-passes r m gamma m (suc m) m 1 (m + 1) (λ c. c ≡ a) (λ i. nearBy r gamma i a) (omega arith) (omega arith) (omega arith) (omega arith) stands
 
   pub last-by-not-too-long : NotTooLong (PlaceBy r m gamma) (LastIs m a) 0 (lastJump (nearBy r gamma) m a)
-  last-by-not-too-long =
-      single-long r m gamma (m - 1) m m 0 m (λ c. c ≡ a) (λ i. nearBy r gamma i a) (omega arith) (omega arith) (omega arith) (omega arith) stands
+  last-by-not-too-long y s t rd = last-by-passes y s t
 
   pub next-by-not-too-long : NotTooLong (PlaceBy r m gamma) (NextIs m a) 1 (nextJump (nearBy r gamma) m a)
-  next-by-not-too-long =
-      single-long r m gamma m (suc m) m 1 (m + 1) (λ c. c ≡ a) (λ i. nearBy r gamma i a) (omega arith) (omega arith) (omega arith) (omega arith) stands
+  next-by-not-too-long y s t rd = next-by-passes y s t
 
   module _ (h : Home r m) (byte : a ≤ highest) where
     meets : (i : ℕ) → i < m → nearBy r gamma i a ≡ true → Meet r gamma i (λ c. c ≡ a)

@@ -34,7 +34,9 @@ module _ (r : Rule) (m gamma : ℕ) (some : 1 ≤ m) (P : ℕ → ℕ → Type 0
     pub several-long : NotTooLong (PlaceBy r m gamma) (Seen P m) 1 (least test 1 (m - 1))
     several-long y s t rd e p place =
         not-both
-        (sound k (λ i l. clash r m gamma P m y s t (k + i) i rd e place (omega (arith, p .since)) l (omega arith)))
+        (sound k (λ i l.
+        let both = clash r m gamma P m y s t (k + i) i e place (omega (arith, p .since)) l (omega arith) in
+        record { c = readingAt y s (k + i); byte = rd (s + (k + i)); seen = both .0; near = both .1 }))
         (least-none test 1 (m - 1) k (omega (arith, p .since)) (omega (arith, p .since, p .before)))
       where
         k : ℕ

@@ -21,16 +21,18 @@ module _ (r : Rule) (m gamma q w n from top : ℕ) (A : ℕ → Type 0) (ok : �
   abbrev At : ℕ → ℕ → Type 0
   At j c = j ≡ q → A c
 
-  pub single-long : ((i : ℕ) → i < n → Meet r gamma i A → ok i ≡ true) → NotTooLong (PlaceBy r m gamma) (Seen (λ j c. j ≡ q → A c) w) from (top - greatest ok n)
-  single-long sound y s t rd e p place =
-      not-both (sound i (omega (arith, p .since, p .before)) (record { c = k .c; byte = k .byte; seen = k .seen refl; near = k .near }))
-      (greatest-none ok n i (omega (arith, p .since, p .before)) (omega (arith, p .since, p .before)))
-    where
-      i : ℕ
-      i = s + q - t
+  module _ (sound : (i c : ℕ) → i < n → A c → nearBy r gamma i c ≡ true → ok i ≡ true) where
+    -- no passed window is a place, whatever values the recording has
+    pub single-passes : (y : List ℕ) (s t : ℕ) → Seen (λ j c. j ≡ q → A c) w y s → Passed from (top - greatest ok n) s t → PlaceBy r m gamma y t → ⊥
+    single-passes y s t e p place =
+        not-both (sound i (readingAt y s q) (omega (arith, p .since, p .before)) (both .0 refl) (both .1))
+        (greatest-none ok n i (omega (arith, p .since, p .before)) (omega (arith, p .since, p .before)))
+      where
+        i : ℕ
+        i = s + q - t
 
-      k : Meet r gamma i (At q)
-      k = clash r m gamma At w y s t q i rd e place (omega (arith, p .since, p .before)) inside (omega (arith, p .since, p .before))
+        both : At q (readingAt y s q) × (nearBy r gamma i (readingAt y s q) ≡ true)
+        both = clash r m gamma At w y s t q i e place (omega (arith, p .since, p .before)) inside (omega (arith, p .since, p .before))
 
   module _ (h : Home r m) where
     -- the reading v at position q, and elsewhere what stands for nothing where the jump lands
