@@ -8,3 +8,4 @@ pub mod OneReading
 pub mod Demands
 pub mod Sizes
 pub mod Keeps
+pub mod Orders

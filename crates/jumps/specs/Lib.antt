@@ -3,3 +3,5 @@ pub mod Least
 pub mod Jumps
 pub mod Demand
 pub mod Asking
+pub mod Order
+pub mod Holding
