@@ -9,3 +9,6 @@ pub mod Demands
 pub mod Sizes
 pub mod Keeps
 pub mod Orders
+pub mod Holdings
+pub mod OverSpans
+pub mod Askings

@@ -1,4 +1,19 @@
-// The jump rules: the questions that return the jumps.
+// The jump rules: the questions that return the jumps, and the tables of jumps that a search builds once.
+// Points and positions count from 0; only the mismatch question takes document 01's number.
+mod lone;
+mod question;
+mod single;
+mod several;
+
+pub use question::after_check;
+pub use question::full;
+pub use question::last_reading;
+pub use question::next_reading;
+pub use several::full_jump;
+pub use single::after_jump;
+pub use single::last_table;
+pub use single::next_table;
+pub use single::smaller;
 
 // The number of the refusal and a jump of 0; or 0 and the jump.
 pub struct Jump {

@@ -10,9 +10,9 @@ use lib.Dec.{ltb, eqb}
 use borrow.Author.Tests.{ltb-true, eqb-true, lt-ltb, le-ltb, eq-eqb, ne-eqb}
 use Rattle.fit.specs.Reading.{alike}
 use Rattle.fit.proofs.Laws.Bools.{and-left, and-right, and-both, or-cases, or-left, or-right, either, is-false, not-both, le-or-lt}
-use Rattle.jumps.specs.Least.{allBelow}
+use Rattle.jumps.specs.Least.{least, allBelow}
 use Rattle.jumps.specs.Jumps.{lonely, loneAt, loneJump, earlier, agreesAt, mismatchAt, mismatchJump, fullAt, fullJump}
-use Rattle.jumps.proofs.Laws.Leasts.{least-ge, least-le, least-holds, all-at, all-of}
+use Rattle.jumps.proofs.Laws.Leasts.{Upward, least-ge, least-le, all-none, all-more, all-miss, all-at, all-of}
 
 -- a test of what is compared only where position q lies in the landing window
 module _ (q k : ℕ) (t : Bool) where
@@ -49,6 +49,11 @@ module _ (d : ℕ) (x : List ℕ) where
   pub lone-jump-le : (p : ℕ) → loneJump d x p ≤ p + 1
   unfolding loneJump
   lone-jump-le p = omega (arith, least-le (loneAt d x p) 1 p)
+
+  -- where a loop that looks for it starts
+  pub lone-start : (p : ℕ) → Upward (loneAt d x p) (p + 1) (loneJump d x p) 1
+  unfolding loneJump
+  lone-start p = let e : p ≡ p + 1 - 1 = omega arith in record { left = omega arith; same = ap (least (loneAt d x p) 1) e }
 
   -- ---- the compare order
   pub earlier-is : (q p : ℕ) → earlier d x q p ≡ true → (loneJump d x p < loneJump d x q) ⊎ ((loneJump d x p ≡ loneJump d x q) × (p < q))
@@ -122,3 +127,33 @@ module _ (d : ℕ) (x : List ℕ) where
   pub is-full : (k : ℕ) → ((i : ℕ) → i + k < length x → alike (2 * d) (getD x i 0) (getD x (i + k) 0) ≡ true) → fullAt d x k ≡ true
   unfolding fullAt
   is-full k f = all-of (λ i. alike (2 * d) (getD x i 0) (getD x (i + k) 0)) (length x - k) (λ i l. f i (omega arith))
+
+  -- a loop that tests it: the first i points are alike to those k further on
+  pub record AllAlike (k i : ℕ) : Type 0 where
+    pub left : i ≤ length x - k
+    pub so-far : allBelow (λ j. alike (2 * d) (getD x j 0) (getD x (j + k) 0)) i ≡ true
+
+  pub alike-start : (k : ℕ) → AllAlike k 0
+  alike-start k = record { left = omega arith; so-far = all-none (λ j. alike (2 * d) (getD x j 0) (getD x (j + k) 0)) }
+
+  pub alike-miss : (k i : ℕ) → i < length x - k → alike (2 * d) (getD x i 0) (getD x (i + k) 0) ≡ false → fullAt d x k ≡ false
+  unfolding fullAt
+  alike-miss k i l f = all-miss (λ j. alike (2 * d) (getD x j 0) (getD x (j + k) 0)) (length x - k) i l f
+
+  module _ {k i : ℕ} (h : AllAlike k i) where
+    pub alike-more : alike (2 * d) (getD x i 0) (getD x (i + k) 0) ≡ true → i < length x - k → AllAlike k (i + 1)
+    alike-more e l = record { left = omega arith; so-far = all-more (λ j. alike (2 * d) (getD x j 0) (getD x (j + k) 0)) i (h .so-far) e }
+
+    pub alike-end : length x - k ≤ i → fullAt d x k ≡ true
+    unfolding fullAt
+    alike-end l =
+        let e : length x - k ≡ i = omega (arith, h .left) in
+        ap (allBelow (λ j. alike (2 * d) (getD x j 0) (getD x (j + k) 0))) e ∙ h .so-far
+
+  pub full-start : 1 ≤ length x → Upward (fullAt d x) (length x) (fullJump d x) 1
+  unfolding fullJump
+  full-start some = record { left = some; same = refl }
+
+  pub mismatch-start : (p : ℕ) → 1 ≤ length x → Upward (mismatchAt d x p) (length x) (mismatchJump d x p) 1
+  unfolding mismatchJump
+  mismatch-start p some = record { left = some; same = refl }

@@ -41,11 +41,6 @@ module _ (ok : ℕ → Bool) where
       above : suc n ≤ j → ⊥
       above a = omega arith
 
-  -- a loop that looks for it from above stands behind the first i points
-  pub greatest-end : greatest ok 0 ≡ 0
-  unfolding greatest
-  greatest-end = refl
-
   pub greatest-hit : (i : ℕ) → 0 < i → ok (i - 1) ≡ true → greatest ok i ≡ i
   unfolding greatest
   greatest-hit zero l e = absurd (not-suc-le-zero l)
@@ -55,6 +50,25 @@ module _ (ok : ℕ → Bool) where
   unfolding greatest
   greatest-miss zero l e = absurd (not-suc-le-zero l)
   greatest-miss (suc i) l e = let s : suc i - 1 ≡ i = omega arith in rw (sym (ap ok s) ∙ e, s)
+
+-- a loop that looks for it from above: the first i points are left
+pub record Downward (ok : ℕ → Bool) (n i : ℕ) : Type 0 where
+  pub left : i ≤ n
+  pub same : greatest ok n ≡ greatest ok i
+
+pub down-start : (ok : ℕ → Bool) (n : ℕ) → Downward ok n n
+down-start ok n = record { left = le-refl n; same = refl }
+
+module _ {ok : ℕ → Bool} {n i : ℕ} (w : Downward ok n i) where
+  pub down-end : i ≤ 0 → (0 ≡ greatest ok n) × (0 ≤ n)
+  unfolding greatest
+  down-end l = let e : i ≡ 0 = omega arith in (sym (w .same ∙ ap (greatest ok) e), omega arith)
+
+  pub down-hit : {b : Bool} → b ≡ ok (i - 1) → b ≡ true → 0 < i → (i ≡ greatest ok n) × (i ≤ n)
+  down-hit e t l = (sym (w .same ∙ greatest-hit ok i l (sym e ∙ t)), w .left)
+
+  pub down-miss : {b : Bool} → b ≡ ok (i - 1) → b ≡ false → 0 < i → Downward ok n (i - 1)
+  down-miss e f l = record { left = omega (arith, w .left); same = w .same ∙ greatest-miss ok i l (sym e ∙ f) }
 
 -- tests that agree on the first n points have the same greatest
 pub greatest-same : (ok ok′ : ℕ → Bool) (n : ℕ) → ((i : ℕ) → i < n → ok i ≡ ok′ i) → greatest ok n ≡ greatest ok′ n
@@ -112,25 +126,29 @@ unfolding least
 least-same t t′ k zero h = refl
 least-same t t′ k (suc n) h = rw (h k (le-refl k) (omega arith), least-same t t′ (suc k) n (λ j a b. h j (omega arith) (omega arith)))
 
--- a loop that looks for it from below: J is what it looks for, and it stands at k
-module _ (test : ℕ → Bool) (top k J : ℕ) (inv : J ≡ least test k (top - k)) where
-  pub least-end : top ≤ k → k ≡ J
-  unfolding least
-  least-end l = let e : top - k ≡ 0 = omega arith in sym (inv ∙ ap (least test k) e)
+-- a loop that looks from below for J, the least that passes: it stands at k, and `top` is the end
+pub record Upward (test : ℕ → Bool) (top J k : ℕ) : Type 0 where
+  pub left : k ≤ top
+  pub same : J ≡ least test k (top - k)
 
-  pub least-hit : test k ≡ true → k ≡ J
+module _ {test : ℕ → Bool} {top J k : ℕ} (u : Upward test top J k) where
+  pub up-end : top ≤ k → k ≡ J
   unfolding least
-  least-hit e = sym (inv ∙ at-once (top - k))
+  up-end l = let e : top - k ≡ 0 = omega arith in sym (u .same ∙ ap (least test k) e)
+
+  pub up-hit : {b : Bool} → b ≡ test k → b ≡ true → k ≡ J
+  unfolding least
+  up-hit e t = sym (u .same ∙ at-once (top - k))
     where
       at-once : (n : ℕ) → least test k n ≡ k
       at-once zero = refl
-      at-once (suc n) = rw e
+      at-once (suc n) = rw (sym e ∙ t)
 
-  pub least-miss : k < top → test k ≡ false → J ≡ least test (k + 1) (top - (k + 1))
+  pub up-miss : {b : Bool} → b ≡ test k → b ≡ false → k < top → Upward test top J (k + 1)
   unfolding least
-  least-miss l f =
-      let e : top - k ≡ suc (top - (k + 1)) = omega arith in
-      inv ∙ ap (least test k) e ∙ rw (f, add-one)
+  up-miss e f l =
+      let s : top - k ≡ suc (top - (k + 1)) = omega arith in
+      record { left = omega arith; same = u .same ∙ ap (least test k) s ∙ rw (sym e ∙ f, add-one) }
 
 -- ---- all and some
 module _ (test : ℕ → Bool) where

@@ -133,6 +133,20 @@ module _ (d : ℕ) where
       (λ u. is-lonely a b (high-end a b h r (not-true (near d b (min highest (a + d))) u)))
       (or-cases (not (near d b (max lowest (a - d)))) (not (near d b (min highest (a + d)))) e))
 
+-- as the code has them: l and h are the ends, and nl and nh say whether they are near b
+module _ (d a b l : ℕ) {nl : Bool} (byte : a ≤ highest) (real : lowest ≤ a) (low : l ≡ max lowest (a - d)) (near-low : nl ≡ near d b l) where
+  by-ends : lonely d b a ≡ (not nl || not (near d b (min highest (a + d))))
+  by-ends =
+      lonely-ends d a b byte real
+      ∙ ap (λ (t : Bool). not t || not (near d b (min highest (a + d)))) (sym (near-low ∙ ap (near d b) low))
+
+  pub low-decides : nl ≡ false → true ≡ lonely d b a
+  low-decides f = sym (by-ends ∙ ap (λ (t : Bool). not t || not (near d b (min highest (a + d)))) f)
+
+  pub high-decides : (h : ℕ) {nh : Bool} → nl ≡ true → h ≡ min highest (a + d) → nh ≡ near d b h → not nh ≡ lonely d b a
+  high-decides h t high near-high =
+      ap not (near-high ∙ ap (near d b) high) ∙ sym (by-ends ∙ ap (λ (t : Bool). not t || not (near d b (min highest (a + d)))) t)
+
 -- ---- some reading is not near b
 pub record Far (d b : ℕ) : Type 0 where
   pub c : ℕ
