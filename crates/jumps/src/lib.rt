@@ -2,8 +2,8 @@
 // Points and positions count from 0; only the mismatch question takes document 01's number.
 mod lone;
 mod question;
-mod single;
 mod several;
+mod single;
 
 pub use question::after_check;
 pub use question::full;

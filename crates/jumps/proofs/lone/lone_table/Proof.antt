@@ -2,6 +2,7 @@
 use Prim.Native.Nat.{ℕ, _-_, _≤_}
 use native.Mathlib.Omega.{arith}
 use lib.ListN.{length}
+use mathlib.Core.Path.{_≡_}
 use Rattle.jumps.specs.Jumps.{loneJump}
 use Rattle.jumps.specs.Holding.{Holds}
 use Rattle.jumps.proofs.Laws.Holdings.{holds-none, holds-more}

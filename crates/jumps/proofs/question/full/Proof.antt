@@ -1,3 +1,8 @@
+-- `full` meets its contract: refused, or the jump by the smaller tolerance. Assumes nothing.
+use mathlib.Core.Path.{ap, _∙_}
+use Rattle.jumps.specs.Jumps.{fullJump}
+use Rattle.jumps.proofs.Laws.Askings.{refused, granted, past}
+use Rattle.jumps.proofs.Laws.Holdings.{usable}
 use borrow.Author.Needs.{needs}
 use Rattle.jumps.proofs.question.full.Statement.{statement}
 use Rattle.jumps.proofs.question.full.Tie as tie
@@ -7,25 +12,23 @@ use Rattle.fit.proofs.asked.Reads as asked-reads
 use Rattle.jumps.proofs.several.full_jump.Reads as full-jump-reads
 use Rattle.jumps.proofs.single.smaller.Reads as smaller-reads
 
--- src/question.rt:67:9
 asked-requires : tie.Need-asked-requires
 asked-requires c κs = search needs
 
--- src/question.rt:69:9
 returns : tie.Need-returns
-returns c = ?
+returns c = refused _ _ _ (c .before .asked .ensures) (c .if1 .taken)
 
--- src/question.rt:74:9
 smaller-requires : tie.Need-smaller-requires
 smaller-requires c κs = search needs
 
--- src/question.rt:75:9
 full-jump-requires : tie.Need-full-jump-requires
-full-jump-requires c κs = ?
+full-jump-requires c κs = usable _ _ _ _ (c .smaller .ensures) (past _ _ _ _ (c .before .before .asked .ensures) (c .before .if1 .left))
 
--- src/question.rt:64:1
 returns-2 : tie.Need-returns-2
-returns-2 c = ?
+returns-2 c =
+    let a = c .before .before .before .before .before .args in
+    let number = c .before .before .before .asked .ensures in
+    granted _ _ _ _ number (c .before .before .if1 .left) (c .full-jump .ensures ∙ ap (λ d. fullJump d (a .points .now)) (c .before .smaller .ensures))
 
 pub full-spec : {M : Type 1} → statement M
 full-spec =
