@@ -12,3 +12,4 @@ pub mod Orders
 pub mod Holdings
 pub mod OverSpans
 pub mod Askings
+pub mod Orderings

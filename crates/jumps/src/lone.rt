@@ -4,7 +4,7 @@ ghost use Prim.Native.Nat.{ℕ, _+_, _≤_, _<_, min};
 ghost use lib.ListN.{length, getD};
 ghost use Rattle.fit.specs.Reading.{lowest, highest};
 ghost use Rattle.fit.specs.Refusal.{maxPoints, maxDelta};
-ghost use Rattle.jumps.specs.Jumps.{lonely, loneJump};
+ghost use Rattle.jumps.specs.Jumps.{lonely, loneAt, loneJump};
 ghost use Rattle.jumps.specs.Holding.{Holds, Usable};
 
 // The greatest reading that is near point p.
@@ -17,7 +17,7 @@ fn most_near(p: u8, d: u32) -> u8
 }
 
 // Whether some reading is near a and not near b: the least and the greatest that are near a decide.
-pub(crate) fn is_lonely(d: u32, b: u8, a: u8) -> bool
+fn is_lonely(d: u32, b: u8, a: u8) -> bool
     requires { ⌜ (d ≤ maxDelta) × (lowest ≤ a) ⌝ }
     ensures { λ r. ⌜ r ≡ lonely d b a ⌝ }
 {
@@ -28,6 +28,17 @@ pub(crate) fn is_lonely(d: u32, b: u8, a: u8) -> bool
     }
 }
 
+// The lone condition of point p at k.
+pub(crate) fn lone_at(points: &[u8], d: u32, p: usize, k: usize) -> bool
+    requires { ⌜ Usable d (now points) × (p < length (now points)) ⌝ }
+    ensures { λ r. ⌜ r ≡ loneAt d (now (points .entry)) p k ⌝ }
+{
+    if p < k {
+        return true;
+    }
+    is_lonely(d, points[p], points[p - k])
+}
+
 // The lone jump of point p.
 fn lone_jump(points: &[u8], d: u32, p: usize) -> usize
     requires { ⌜ Usable d (now points) × (p < length (now points)) ⌝ }
@@ -35,7 +46,7 @@ fn lone_jump(points: &[u8], d: u32, p: usize) -> usize
 {
     let mut k = 1;
     while k <= p {
-        if is_lonely(d, points[p], points[p - k]) {
+        if lone_at(points, d, p, k) {
             return k;
         }
         k += 1;
@@ -46,7 +57,7 @@ fn lone_jump(points: &[u8], d: u32, p: usize) -> usize
 // The lone jumps of all points.
 pub(crate) fn lone_table(points: &[u8], d: u32) -> [u8; 64]
     requires { ⌜ Usable d (now points) ⌝ }
-    ensures { λ r. ⌜ Holds (loneJump d (now (points .entry))) (length (now (points .entry))) 64 r ⌝ }
+    ensures { λ r. ⌜ Holds (loneJump d (now (points .entry))) (length (now (points .entry))) maxPoints r ⌝ }
 {
     let mut table = [0u8; 64];
     let mut p = 0;

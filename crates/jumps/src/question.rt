@@ -75,3 +75,38 @@ pub fn full(points: &[u8], delta: u32, gamma: u32) -> Jump
     let jump = super::several::full_jump(points, d);
     Jump { refusal: 0, jump }
 }
+
+// The mismatch jump at point number p, from 1 to m.
+pub fn mismatch(points: &[u8], delta: u32, gamma: u32, p: usize) -> Jump
+    ensures { λ r. ⌜
+        r ≡ jumpAnswer (mismatchAskedOf delta gamma (now (points .entry)) p) (mismatchJump (dOf delta gamma) (now (points .entry)) (p - 1)) ⌝ }
+{
+    let number = mismatch_asked(points, delta, gamma, p);
+    if number != 0 {
+        return Jump {
+            refusal: number,
+            jump: 0,
+        };
+    }
+    let d = super::single::smaller(delta, gamma);
+    let tables = super::compared::compared_of(points, d);
+    let jump = super::order::size(tables.jumps[p - 1]);
+    Jump { refusal: 0, jump }
+}
+
+// The refusal of the mismatch question.
+fn mismatch_asked(points: &[u8], delta: u32, gamma: u32, p: usize) -> u32
+    ensures { λ r. ⌜ r ≡ mismatchAskedOf delta gamma (now (points .entry)) p ⌝ }
+{
+    let number = fit::asked(points, delta, gamma);
+    if number != 0 {
+        return number;
+    }
+    if p == 0 {
+        return 6;
+    }
+    if points.len() < p {
+        return 6;
+    }
+    0
+}

@@ -1,15 +1,14 @@
 -- `lone_jump` meets its contract: no k below the present one meets the lone condition. Assumes nothing.
 use Prim.Native.Nat.{ℕ, _+_, _-_}
-use mathlib.Core.Path.{sym, _∙_}
 use native.Mathlib.Omega.{arith}
 use Rattle.jumps.specs.Jumps.{loneAt, loneJump}
 use Rattle.jumps.proofs.Laws.Leasts.{Upward, up-hit, up-miss, up-end}
-use Rattle.jumps.proofs.Laws.Conditions.{lone-start, lone-within, lone-jump-le}
+use Rattle.jumps.proofs.Laws.Conditions.{lone-start, lone-jump-le}
 use Rattle.jumps.proofs.lone.lone_jump.Statement.{statement}
 use Rattle.jumps.proofs.lone.lone_jump.Tie as tie
 use Rattle.jumps.proofs.lone.lone_jump.Reads as reads
 use Rattle.jumps.proofs.lone.lone_jump.Lts as lts
-use Rattle.jumps.proofs.lone.is_lonely.Reads as is-lonely-reads
+use Rattle.jumps.proofs.lone.lone_at.Reads as lone-at-reads
 
 abbrev Inv-loop : tie.InvT-loop
 Inv-loop points d p k₀ k = Upward (loneAt d points p) (p + 1) (loneJump d points p) k
@@ -20,20 +19,13 @@ abbrev μ-loop : tie.MeasureT-loop
 loop-holds : tie.Need-loop-holds Inv-loop μ-loop
 loop-holds c = lone-start _ _ _
 
-shared-slice-read-is-lonely : tie.Need-shared-slice-read-is-lonely Inv-loop μ-loop
-shared-slice-read-is-lonely c = omega arith
-
-shared-slice-read-is-lonely-2 : tie.Need-shared-slice-read-is-lonely-2 Inv-loop μ-loop
-shared-slice-read-is-lonely-2 c = omega arith
-
-is-lonely-requires : tie.Need-is-lonely-requires Inv-loop μ-loop
-is-lonely-requires c κs = (omega arith, c .before .before .before .before .before .pre .0 .real _ (omega arith))
+lone-at-requires : tie.Need-lone-at-requires Inv-loop μ-loop
+lone-at-requires c κs = c .before .before .before .pre
 
 returns : tie.Need-returns Inv-loop μ-loop
 returns c =
-    let u = c .before .before .before .before .before .loop .inv in
-    let a = c .before .before .before .before .before .before .before .args in
-    let e = up-hit u (c .before .is-lonely .ensures ∙ sym (lone-within _ _ _ _ (omega arith))) (c .if1 .taken) in
+    let a = c .before .before .before .before .before .args in
+    let e = up-hit (c .before .before .before .loop .inv) (c .before .lone-at .ensures) (c .if1 .taken) in
     (e, omega (arith, e, lone-jump-le (a .d) (a .points .now) (a .p)))
 
 add-k : tie.Need-add-k Inv-loop μ-loop
@@ -43,8 +35,7 @@ loop-less : tie.Need-loop-less Inv-loop μ-loop
 loop-less c = omega arith
 
 loop-again : tie.Need-loop-again Inv-loop μ-loop
-loop-again c =
-    up-miss (c .before .before .before .before .before .loop .inv) (c .before .is-lonely .ensures ∙ sym (lone-within _ _ _ _ (omega arith))) (c .if1 .left) (omega arith)
+loop-again c = up-miss (c .before .before .before .loop .inv) (c .before .lone-at .ensures) (c .if1 .left) (omega arith)
 
 returns-2 : tie.Need-returns-2 Inv-loop μ-loop
 returns-2 c =
@@ -59,9 +50,7 @@ lone-jump-spec =
     Inv-loop
     μ-loop
     loop-holds
-    shared-slice-read-is-lonely
-    shared-slice-read-is-lonely-2
-    is-lonely-requires
+    lone-at-requires
     returns
     add-k
     loop-less

@@ -2,10 +2,10 @@
 use Prim.Native.Nat.{ℕ, _-_, _≤_}
 use native.Mathlib.Omega.{arith}
 use lib.ListN.{length}
-use mathlib.Core.Path.{_≡_}
+use Rattle.fit.specs.Refusal.{maxPoints}
 use Rattle.jumps.specs.Jumps.{loneJump}
 use Rattle.jumps.specs.Holding.{Holds}
-use Rattle.jumps.proofs.Laws.Holdings.{holds-none, holds-more}
+use Rattle.jumps.proofs.Laws.Holdings.{holds-none, holds-more, holds-end}
 use Rattle.jumps.proofs.lone.lone_table.Statement.{statement}
 use Rattle.jumps.proofs.lone.lone_table.Tie as tie
 use Rattle.jumps.proofs.lone.lone_table.Reads as reads
@@ -13,13 +13,13 @@ use Rattle.jumps.proofs.lone.lone_table.Lts as lts
 use Rattle.jumps.proofs.lone.lone_jump.Reads as lone-jump-reads
 
 abbrev Inv-loop : tie.InvT-loop
-Inv-loop points d table₀ p₀ table p = (p ≤ length points) × Holds (loneJump d points) p 64 table
+Inv-loop points d table₀ p₀ table p = (p ≤ length points) × Holds (loneJump d points) p maxPoints table
 
 abbrev μ-loop : tie.MeasureT-loop
 μ-loop points d table₀ p₀ table p = length points - p
 
 loop-holds : tie.Need-loop-holds Inv-loop μ-loop
-loop-holds c = (omega arith, holds-none _ 64)
+loop-holds c = (omega arith, holds-none _ maxPoints)
 
 lone-jump-requires : tie.Need-lone-jump-requires Inv-loop μ-loop
 lone-jump-requires c κs = (c .before .before .before .pre, omega arith)
@@ -39,13 +39,10 @@ loop-less c = omega arith
 loop-again : tie.Need-loop-again Inv-loop μ-loop
 loop-again c =
     let h = c .before .before .loop .inv in
-    (omega arith, holds-more _ 64 _ _ (h .1) (omega arith) (c .lone-jump .ensures .0))
+    (omega arith, holds-more _ maxPoints _ _ (h .1) (omega arith) (c .lone-jump .ensures .0))
 
 returns : tie.Need-returns Inv-loop μ-loop
-returns c =
-    let h = c .before .loop .inv in
-    let e : c .before .loop .p ≡ length (c .before .before .before .args .points .now) = omega arith in
-    rw (← e) (h .1)
+returns c = let h = c .before .loop .inv in holds-end _ maxPoints _ _ (h .1) (h .0) (omega arith)
 
 pub lone-table-spec : {M : Type 1} → statement M
 lone-table-spec =

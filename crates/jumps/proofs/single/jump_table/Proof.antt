@@ -6,7 +6,7 @@ use Rattle.fit.specs.Rule.{nearBy}
 use Rattle.fit.specs.Spans.{ruleIn}
 use Rattle.jumps.specs.Least.{greatest}
 use Rattle.jumps.specs.Holding.{Holds}
-use Rattle.jumps.proofs.Laws.Holdings.{holds-none, holds-more}
+use Rattle.jumps.proofs.Laws.Holdings.{holds-none, holds-more, holds-end}
 use Rattle.jumps.proofs.single.jump_table.Statement.{statement}
 use Rattle.jumps.proofs.single.jump_table.Tie as tie
 use Rattle.jumps.proofs.single.jump_table.Reads as reads
@@ -49,10 +49,7 @@ loop-again c =
     (omega arith, holds-more _ 256 _ _ (h .1) (omega arith) (ap (λ (g : ℕ). c .before .before .before .before .args .top - g) (c .greatest-near .ensures .0)))
 
 returns : tie.Need-returns Inv-loop μ-loop
-returns c =
-    let h = c .before .loop .inv in
-    let e : c .before .loop .a ≡ 256 = omega arith in
-    rw e at (h .1)
+returns c = let h = c .before .loop .inv in holds-end _ 256 _ _ (h .1) (h .0) (omega arith)
 
 pub jump-table-spec : {M : Type 1} → statement M
 jump-table-spec =
