@@ -2,6 +2,3 @@
 pub mod Least
 pub mod Jumps
 pub mod Demand
-pub mod Asking
-pub mod Order
-pub mod Holding
