@@ -100,7 +100,7 @@ pub fn mismatch(points: &[u8], delta: u32, gamma: u32, p: usize) -> Jump
         };
     }
     let d = tables::smaller(delta, gamma);
-    let made = tables::compared_of(points, d);
+    let made = comparing::compared_of(points, d);
     let jump = size(made.jumps[p - 1]);
     Jump { refusal: 0, jump }
 }

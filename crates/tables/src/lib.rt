@@ -1,13 +1,8 @@
-// The jumps, computed: one by one for the questions, and as tables that a search builds once.
+// The jumps, computed: one by one for the questions, and those of all readings as tables that a search builds once.
 // Points and positions count from 0.
-mod compared;
-mod lone;
-mod order;
 mod several;
 mod single;
 
-pub use compared::Compared;
-pub use compared::compared_of;
 pub use several::full_jump;
 pub use single::after_jump;
 pub use single::last_jump;

@@ -1,20 +1,9 @@
-// The full jump, and whether a point agrees with the window that a jump lands on.
+// The full jump.
 ghost use mathlib.Core.Path.{_≡_};
 ghost use Prim.Native.Nat.{_<_};
 ghost use lib.ListN.{length};
-ghost use Rattle.jumps.specs.Jumps.{agreesAt, fullAt, fullJump};
+ghost use Rattle.jumps.specs.Jumps.{fullAt, fullJump};
 ghost use Rattle.tables.specs.Holding.{Usable};
-
-// Whether point q lies before the window that a jump of k lands on, or is alike to the point that comes to stand there.
-pub(crate) fn agrees(points: &[u8], d: u32, k: usize, q: usize) -> bool
-    requires { ⌜ Usable d (now points) × (q < length (now points)) ⌝ }
-    ensures { λ r. ⌜ r ≡ agreesAt d (now (points .entry)) k q ⌝ }
-{
-    if q < k {
-        return true;
-    }
-    fit::are_alike(2 * d, points[q - k], points[q])
-}
 
 // Whether all points that the two windows share are alike.
 fn all_agree(points: &[u8], d: u32, k: usize) -> bool

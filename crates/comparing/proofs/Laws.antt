@@ -1,0 +1,3 @@
+pub mod Orders
+pub mod Writings
+pub mod Orderings
