@@ -13,6 +13,22 @@ pub struct Jump {
     pub jump: usize,
 }
 
+// The answer of a question that is refused by `number`, or accepted where that is 0.
+fn answer(number: u32, jump: usize) -> Jump
+    ensures { λ r. ⌜ r ≡ jumpAnswer number jump ⌝ }
+{
+    if number != 0 {
+        return Jump {
+            refusal: number,
+            jump: 0,
+        };
+    }
+    Jump {
+        refusal: number,
+        jump,
+    }
+}
+
 fn size(a: u8) -> usize
     ensures { λ r. ⌜ r ≡ a ⌝ }
 {
@@ -27,14 +43,11 @@ pub fn last_reading(points: &[u8], delta: u32, gamma: u32, a: u8) -> Jump
 {
     let number = fit::asked(points, delta, gamma);
     if number != 0 {
-        return Jump {
-            refusal: number,
-            jump: 0,
-        };
+        return answer(number, 0);
     }
     let spans = fit::spans_of(points, delta);
     let jump = tables::last_jump(&spans, points.len(), gamma, a);
-    Jump { refusal: 0, jump }
+    answer(0, jump)
 }
 
 // The next-reading jump for reading a.
@@ -45,14 +58,11 @@ pub fn next_reading(points: &[u8], delta: u32, gamma: u32, a: u8) -> Jump
 {
     let number = fit::asked(points, delta, gamma);
     if number != 0 {
-        return Jump {
-            refusal: number,
-            jump: 0,
-        };
+        return answer(number, 0);
     }
     let spans = fit::spans_of(points, delta);
     let jump = tables::next_jump(&spans, points.len(), gamma, a);
-    Jump { refusal: 0, jump }
+    answer(0, jump)
 }
 
 // The after-check jump.
@@ -61,14 +71,11 @@ pub fn after_check(points: &[u8], delta: u32, gamma: u32) -> Jump
 {
     let number = fit::asked(points, delta, gamma);
     if number != 0 {
-        return Jump {
-            refusal: number,
-            jump: 0,
-        };
+        return answer(number, 0);
     }
     let d = tables::smaller(delta, gamma);
     let jump = tables::after_jump(points, d);
-    Jump { refusal: 0, jump }
+    answer(0, jump)
 }
 
 // The full jump.
@@ -77,14 +84,11 @@ pub fn full(points: &[u8], delta: u32, gamma: u32) -> Jump
 {
     let number = fit::asked(points, delta, gamma);
     if number != 0 {
-        return Jump {
-            refusal: number,
-            jump: 0,
-        };
+        return answer(number, 0);
     }
     let d = tables::smaller(delta, gamma);
     let jump = tables::full_jump(points, d);
-    Jump { refusal: 0, jump }
+    answer(0, jump)
 }
 
 // The mismatch jump at point number p, from 1 to m.
@@ -94,15 +98,12 @@ pub fn mismatch(points: &[u8], delta: u32, gamma: u32, p: usize) -> Jump
 {
     let number = mismatch_asked(points, delta, gamma, p);
     if number != 0 {
-        return Jump {
-            refusal: number,
-            jump: 0,
-        };
+        return answer(number, 0);
     }
     let d = tables::smaller(delta, gamma);
     let made = comparing::compared_of(points, d);
     let jump = size(made.jumps[p - 1]);
-    Jump { refusal: 0, jump }
+    answer(0, jump)
 }
 
 // The refusal of the mismatch question.
