@@ -2,3 +2,4 @@ pub mod Orders
 pub mod Writings
 pub mod Orderings
 pub mod Uniques
+pub mod Seeing
