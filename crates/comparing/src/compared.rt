@@ -1,6 +1,6 @@
 // What a search needs to compare points: their order, and the mismatch jump of each.
 ghost use mathlib.Core.Path.{_≡_};
-ghost use Prim.Native.Nat.{ℕ, _≤_, _<_};
+ghost use Prim.Native.Nat.{_≤_, _<_};
 ghost use lib.ListN.{length, getD};
 ghost use Rattle.fit.specs.Refusal.{maxPoints};
 ghost use Rattle.jumps.specs.Jumps.{agreesAt, mismatchAt, mismatchJump};

@@ -1,7 +1,7 @@
 // The lone jumps, which give the order in which points are compared.
 ghost use mathlib.Core.Path.{_≡_};
-ghost use Prim.Native.Nat.{ℕ, _+_, _≤_, _<_, min};
-ghost use lib.ListN.{length, getD};
+ghost use Prim.Native.Nat.{_+_, _≤_, _<_, min};
+ghost use lib.ListN.{length};
 ghost use Rattle.fit.specs.Reading.{lowest, highest};
 ghost use Rattle.fit.specs.Refusal.{maxPoints, maxDelta};
 ghost use Rattle.jumps.specs.Jumps.{lonely, loneAt, loneJump};

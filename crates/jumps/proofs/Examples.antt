@@ -2,7 +2,7 @@
 use Prim.Native.Nat.{ℕ}
 use mathlib.Core.Path.{_≡_, refl}
 use mathlib.Core.List.{List, [], _∷_}
-use Rattle.fit.specs.Reading.{near, alike}
+use Rattle.fit.specs.Reading.{near}
 use Rattle.fit.specs.Place.{fitOf, dOf}
 use Rattle.jumps.specs.Least.{greatest}
 use Rattle.jumps.specs.Jumps.{lastJump, mismatchJump}

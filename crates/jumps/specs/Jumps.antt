@@ -1,5 +1,5 @@
 -- The jump rules of document 01. Points count from 0: its x[i] is point i - 1 here, and its "p - k < 1" is p < k. Assumes nothing.
-use Prim.Native.Nat.{ℕ, zero, suc, _+_, _-_, _*_}
+use Prim.Native.Nat.{ℕ, _+_, _-_, _*_}
 use mathlib.Core.Bool.{Bool, not, _&&_, _||_}
 use mathlib.Core.List.{List}
 use lib.ListN.{length, getD}

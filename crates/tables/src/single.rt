@@ -1,9 +1,9 @@
 // The rules that look at one reading, or at the last point.
 ghost use mathlib.Core.Path.{_≡_};
-ghost use Prim.Native.Nat.{ℕ, _+_, _-_, _*_, _≤_, min};
+ghost use Prim.Native.Nat.{_+_, _-_, _*_, _≤_, min};
 ghost use lib.ListN.{length, getD};
-ghost use Rattle.fit.specs.Reading.{highest, alike};
-ghost use Rattle.fit.specs.Rule.{Rule, nearBy};
+ghost use Rattle.fit.specs.Reading.{alike};
+ghost use Rattle.fit.specs.Rule.{nearBy};
 ghost use Rattle.fit.specs.Refusal.{maxPoints};
 ghost use Rattle.fit.specs.Spans.{ruleIn};
 ghost use Rattle.jumps.specs.Least.{greatest};

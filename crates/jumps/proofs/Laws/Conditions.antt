@@ -1,15 +1,15 @@
 -- What the conditions of the lone, mismatch and full jumps say, and the compare order. Nobody else opens these definitions. Assumes nothing.
-use Prim.Native.Nat.{ℕ, zero, suc, _+_, _-_, _*_, _≤_, _<_}
-use mathlib.Core.Path.{_≡_, refl, sym, ap, ap₂, subst, _∙_}
+use Prim.Native.Nat.{ℕ, _+_, _-_, _*_, _≤_, _<_}
+use mathlib.Core.Path.{_≡_, refl, ap, _∙_}
 use mathlib.Core.Bool.{Bool, true, false, not, _&&_, _||_}
 use mathlib.Core.Logic.{_⊎_, inl, inr, ⊎-elim}
 use mathlib.Core.List.{List}
 use native.Mathlib.Omega.{arith}
 use lib.ListN.{length, getD}
 use lib.Dec.{ltb, eqb}
-use borrow.Author.Tests.{ltb-true, eqb-true, lt-ltb, le-ltb, eq-eqb, ne-eqb}
+use borrow.Author.Tests.{ltb-true, eqb-true, lt-ltb, le-ltb, eq-eqb}
 use Rattle.fit.specs.Reading.{alike}
-use Rattle.fit.proofs.Laws.Bools.{and-left, and-right, and-both, or-cases, or-left, or-right, either, is-false, not-both, le-or-lt}
+use Rattle.fit.proofs.Laws.Bools.{and-left, and-right, and-both, or-cases, or-left, or-right, not-both, le-or-lt}
 use Rattle.jumps.specs.Least.{least, allBelow}
 use Rattle.jumps.specs.Jumps.{lonely, loneAt, loneJump, earlier, agreesAt, mismatchAt, mismatchJump, fullAt, fullJump}
 use Rattle.jumps.proofs.Laws.Leasts.{Upward, least-ge, least-le, all-none, all-more, all-miss, all-at, all-of}
@@ -22,10 +22,7 @@ module _ (q k : ℕ) (t : Bool) where
   or-before : (k ≤ q → t ≡ true) → (ltb q k || t) ≡ true
   or-before f = ⊎-elim (λ l. or-right (ltb q k) t (f l)) (λ l. or-left (ltb q k) t (lt-ltb q k l)) (le-or-lt k q)
 
-  pub before-landing : q < k → (ltb q k || t) ≡ true
-  before-landing l = or-left (ltb q k) t (lt-ltb q k l)
-
-  pub within-landing : k ≤ q → (ltb q k || t) ≡ t
+  within-landing : k ≤ q → (ltb q k || t) ≡ t
   within-landing l = rw (le-ltb q k l)
 
 module _ (d : ℕ) (x : List ℕ) where

@@ -1,24 +1,23 @@
 -- Demand 3: for each jump rule its two halves, on its own evidence and no more. Assumes nothing.
-use Prim.Native.Nat.{ℕ, suc, _+_, _-_, _*_, _≤_, _<_}
-use mathlib.Core.Path.{_≡_, refl, sym, ap, subst, _∙_}
-use mathlib.Core.Bool.{Bool, true, false}
+use Prim.Native.Nat.{ℕ, _+_, _-_, _*_, _≤_, _<_}
+use mathlib.Core.Path.{_≡_, refl, sym, subst, _∙_}
+use mathlib.Core.Bool.{true, false}
 use mathlib.Core.Logic.{⊎-elim}
 use mathlib.Core.List.{List}
 use native.Mathlib.Decide.{ℕ-discrete}
 use native.Mathlib.Omega.{arith}
 use lib.ListN.{length, getD}
 use Rattle.fit.specs.Reading.{lowest, highest, diff, alike, near}
-use Rattle.fit.specs.Rule.{Rule, readingAt, isPlaceBy, nearBy}
+use Rattle.fit.specs.Rule.{Rule, readingAt, nearBy}
 use Rattle.fit.specs.Place.{fitOf, ruleOf, Place, isPlace, dOf}
 use Rattle.fit.specs.Refusal.{Asked}
-use Rattle.fit.proofs.Laws.Bools.{either, is-false, not-both}
+use Rattle.fit.proofs.Laws.Bools.{either, not-both}
 use Rattle.fit.proofs.Laws.Readings.{near-le, near-self}
 use Rattle.fit.proofs.Laws.Places.{place-test, test-place, near-derived}
 use Rattle.fit.proofs.Laws.Refusals.{asked-real}
-use Rattle.jumps.specs.Least.{least}
-use Rattle.jumps.specs.Jumps.{lastJump, nextJump, afterJump, lonely, loneAt, earlier, agreesAt, mismatchAt, mismatchJump, fullAt, fullJump, somewhereFar}
-use Rattle.jumps.specs.Demand.{Readings, Passed, Seen, NotTooLong, Reaches, Occurs, LastIs, NextIs, LastNear, MismatchedAt, Mismatch, AllNear}
-use Rattle.jumps.proofs.Laws.Nears.{NearBoth, near-both, both-near, NearOnly, lonely-is, is-lonely, Far, somewhere-is, is-somewhere}
+use Rattle.jumps.specs.Jumps.{lastJump, nextJump, afterJump, lonely, earlier, mismatchAt, mismatchJump, fullAt, fullJump, somewhereFar}
+use Rattle.jumps.specs.Demand.{Readings, Passed, NotTooLong, Reaches, Occurs, LastIs, NextIs, LastNear, MismatchedAt, Mismatch, AllNear}
+use Rattle.jumps.proofs.Laws.Nears.{near-both, both-near, lonely-is, is-lonely, Far, somewhere-is, is-somewhere}
 use Rattle.jumps.proofs.Laws.Conditions.{lone-is, is-lone, not-before-itself, agrees-is, is-agreed, mismatch-lone, mismatch-agrees, is-mismatch, full-is, is-full}
 use Rattle.jumps.proofs.Laws.Frame.{Home, Some, Meet, PlaceBy, occurs, long-as, reaches-as}
 use Rattle.jumps.proofs.Laws.Single.{single-passes, single-short}

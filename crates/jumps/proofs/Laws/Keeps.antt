@@ -1,18 +1,16 @@
 -- For the searchers: at a place t of a given recording, no jump from a window before it goes beyond it. Assumes nothing.
-use Prim.Native.Nat.{ℕ, suc, _+_, _-_, _*_, _≤_, _<_}
-use mathlib.Core.Path.{_≡_, refl, sym, ap, _∙_}
+use Prim.Native.Nat.{ℕ, _+_, _-_, _≤_, _<_}
+use mathlib.Core.Path.{_≡_, ap, _∙_}
 use mathlib.Core.Bool.{true, false}
-use mathlib.Core.Logic.{⊎-elim}
 use mathlib.Core.List.{List}
 use native.Mathlib.Omega.{arith}
 use lib.ListN.{length, getD}
 use Rattle.fit.specs.Reading.{near}
 use Rattle.fit.specs.Rule.{Rule, readingAt, isPlaceBy, nearBy}
-use Rattle.fit.specs.Place.{fitOf, Place, dOf}
+use Rattle.fit.specs.Place.{Place, dOf}
 use Rattle.fit.specs.Refusal.{Asked}
-use Rattle.fit.proofs.Laws.Bools.{le-or-lt}
 use Rattle.jumps.specs.Jumps.{lastJump, nextJump, afterJump, earlier, mismatchJump, fullJump}
-use Rattle.jumps.specs.Demand.{Readings, Seen, LastIs, NextIs, LastNear, Mismatch, AllNear}
+use Rattle.jumps.specs.Demand.{Readings, LastIs, NextIs, LastNear, Mismatch, AllNear}
 use Rattle.jumps.proofs.Laws.Frame.{not-beyond}
 use Rattle.jumps.proofs.Laws.OneReading.{last-by-passes, next-by-passes}
 use Rattle.jumps.proofs.Laws.Demands.{after-check-passes, mismatch-not-too-long, full-not-too-long}

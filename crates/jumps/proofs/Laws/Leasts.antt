@@ -1,8 +1,8 @@
 -- Laws of the greatest point and the least jump that pass a test. Nobody else opens these definitions. Assumes nothing.
 use Prim.Native.Nat.{ℕ, zero, suc, _+_, _-_, _≤_, _<_}
-use mathlib.Core.Path.{_≡_, refl, sym, ap, ap₂, subst, _∙_}
-use mathlib.Core.Bool.{Bool, true, false, cond, _&&_, _||_}
-use mathlib.Core.Logic.{_⊎_, inl, inr, ⊎-elim}
+use mathlib.Core.Path.{_≡_, refl, sym, ap, _∙_}
+use mathlib.Core.Bool.{Bool, true, false, cond}
+use mathlib.Core.Logic.{⊎-elim}
 use native.Mathlib.Nat.{le-refl, not-suc-le-zero, eq-or-lt-of-le, le-of-suc-le-suc}
 use native.Mathlib.Numerals.{add-one}
 use native.Mathlib.Omega.{arith}
@@ -119,12 +119,6 @@ module _ (test : ℕ → Bool) where
     where
       below : j < k → ⊥
       below h = omega arith
-
--- tests that agree have the same least
-pub least-same : (t t′ : ℕ → Bool) (k n : ℕ) → ((j : ℕ) → k ≤ j → j < k + n → t j ≡ t′ j) → least t k n ≡ least t′ k n
-unfolding least
-least-same t t′ k zero h = refl
-least-same t t′ k (suc n) h = rw (h k (le-refl k) (omega arith), least-same t t′ (suc k) n (λ j a b. h j (omega arith) (omega arith)))
 
 -- a loop that looks from below for J, the least that passes: it stands at k, and `top` is the end
 pub record Upward (test : ℕ → Bool) (top J k : ℕ) : Type 0 where

@@ -1,12 +1,11 @@
 -- Demand 3 for the two rules that look at one reading, for points of any kind. Assumes nothing.
 use Prim.Native.Nat.{ℕ, suc, _+_, _-_, _≤_, _<_}
-use mathlib.Core.Path.{_≡_, refl, ap, subst}
+use mathlib.Core.Path.{_≡_, refl, subst}
 use mathlib.Core.Bool.{Bool, true}
 use mathlib.Core.List.{List}
 use native.Mathlib.Omega.{arith}
 use Rattle.fit.specs.Reading.{highest}
 use Rattle.fit.specs.Rule.{Rule, nearBy}
-use Rattle.jumps.specs.Least.{greatest}
 use Rattle.jumps.specs.Jumps.{lastJump, nextJump}
 use Rattle.jumps.specs.Demand.{Passed, LastIs, NextIs, NotTooLong, Reaches}
 use Rattle.jumps.proofs.Laws.Leasts.{greatest-same}
@@ -16,10 +15,10 @@ use Rattle.jumps.proofs.Laws.Single.{single-passes, single-short}
 -- rules that find the same readings near have the same jumps
 module _ (near near′ : ℕ → ℕ → Bool) (m a : ℕ) (same : (i : ℕ) → i < m → near i a ≡ near′ i a) where
   pub last-same : lastJump near m a ≡ lastJump near′ m a
-  last-same = ap (λ (g : ℕ). m - g) (greatest-same (λ i. near i a) (λ i. near′ i a) m same)
+  last-same = rw (greatest-same (λ i. near i a) (λ i. near′ i a) m same)
 
   pub next-same : nextJump near m a ≡ nextJump near′ m a
-  next-same = ap (λ (g : ℕ). m + 1 - g) (greatest-same (λ i. near i a) (λ i. near′ i a) m same)
+  next-same = rw (greatest-same (λ i. near i a) (λ i. near′ i a) m same)
 
 module _ (r : Rule) (m gamma : ℕ) (some : 1 ≤ m) (a : ℕ) where
   stands : (i c : ℕ) → i < m → c ≡ a → nearBy r gamma i c ≡ true → nearBy r gamma i a ≡ true

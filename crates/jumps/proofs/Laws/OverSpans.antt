@@ -4,7 +4,7 @@ use mathlib.Core.Path.{_≡_, _∙_}
 use mathlib.Core.List.{List, []}
 use native.Mathlib.Omega.{arith}
 use lib.ListN.{length}
-use Rattle.fit.specs.Rule.{SameRule, nearBy}
+use Rattle.fit.specs.Rule.{nearBy}
 use Rattle.fit.specs.Place.{fitOf, ruleOf, dOf}
 use Rattle.fit.specs.Refusal.{Asked, Accepted}
 use Rattle.fit.specs.Spans.{ruleIn, spansOf}

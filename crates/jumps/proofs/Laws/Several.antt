@@ -1,20 +1,19 @@
 -- A rule that compares several points: both halves of demand 3, the second where gamma is at least m times what one point may cost. Assumes
 -- nothing.
-use Prim.Native.Nat.{ℕ, zero, suc, _+_, _-_, _*_, _≤_, _<_}
-use mathlib.Core.Path.{_≡_, refl, sym, ap, subst, _∙_}
-use mathlib.Core.Bool.{Bool, true, false}
-use mathlib.Core.List.{List}
+use Prim.Native.Nat.{ℕ, _+_, _-_, _*_, _≤_, _<_}
+use mathlib.Core.Path.{_≡_, refl, sym, subst}
+use mathlib.Core.Bool.{Bool, true}
 use native.Mathlib.Nat.{le-trans}
 use native.Mathlib.Decide.{decLe, decLt}
 use native.Mathlib.Omega.{arith}
 use lib.Dec.{leb}
 use Rattle.fit.specs.Reading.{highest}
-use Rattle.fit.specs.Rule.{Rule, readingAt, sumCost, nearBy}
+use Rattle.fit.specs.Rule.{Rule, readingAt, nearBy}
 use Rattle.fit.proofs.Laws.Bools.{and-left, not-both}
 use Rattle.fit.proofs.Laws.Rules.{sum-bound}
 use Rattle.jumps.specs.Least.{least}
-use Rattle.jumps.specs.Demand.{Passed, Seen, NotTooLong, Reaches}
-use Rattle.jumps.proofs.Laws.Leasts.{least-ge, least-le, least-holds, least-none}
+use Rattle.jumps.specs.Demand.{Seen, NotTooLong, Reaches}
+use Rattle.jumps.proofs.Laws.Leasts.{least-holds, least-none}
 use Rattle.jumps.proofs.Laws.Frame.{Home, Some, Meet, PlaceBy, clash, built}
 
 -- a reading for position q where the jump is k: as the evidence says, and it suits at a cost of at most b where the jump lands

@@ -1,17 +1,17 @@
 -- A rule that looks at one position: both halves of demand 3, with no premise on gamma. Assumes nothing.
 use Prim.Native.Nat.{ℕ, zero, suc, _+_, _-_, _≤_, _<_}
 use mathlib.Core.Path.{_≡_, refl, sym, ap, subst, _∙_}
-use mathlib.Core.Bool.{Bool, true, false, cond}
+use mathlib.Core.Bool.{Bool, true, cond}
 use mathlib.Core.List.{List}
 use native.Mathlib.Decide.{ℕ-discrete}
 use native.Mathlib.Omega.{arith}
 use lib.Dec.{leb, eqb}
 use borrow.Author.Tests.{eq-eqb, ne-eqb, leb-true}
 use Rattle.fit.specs.Reading.{highest}
-use Rattle.fit.specs.Rule.{Rule, readingAt, sumCost, nearBy}
+use Rattle.fit.specs.Rule.{Rule, readingAt, nearBy}
 use Rattle.fit.proofs.Laws.Bools.{and-left, and-right, not-both}
 use Rattle.jumps.specs.Least.{greatest}
-use Rattle.jumps.specs.Demand.{Passed, Seen, NotTooLong, Reaches}
+use Rattle.jumps.specs.Demand.{Passed, Seen, Reaches}
 use Rattle.jumps.proofs.Laws.Leasts.{greatest-le, greatest-holds, greatest-none}
 use Rattle.jumps.proofs.Laws.Frame.{Home, Some, Meet, PlaceBy, clash, built, sum-single}
 

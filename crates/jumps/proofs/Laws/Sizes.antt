@@ -1,16 +1,14 @@
 -- How long jumps are, and when a last-reading jump is 0. Assumes nothing.
-use Prim.Native.Nat.{ℕ, zero, suc, _+_, _-_, _*_, _≤_, _<_}
-use mathlib.Core.Path.{_≡_, refl, sym, ap, subst, _∙_}
-use mathlib.Core.Bool.{Bool, true, false}
-use mathlib.Core.Logic.{⊎-elim}
+use Prim.Native.Nat.{ℕ, _+_, _-_, _*_, _≤_}
+use mathlib.Core.Path.{_≡_}
+use mathlib.Core.Bool.{Bool, true}
 use mathlib.Core.List.{List}
 use native.Mathlib.Omega.{arith}
 use lib.ListN.{length, getD}
 use Rattle.fit.specs.Reading.{alike}
-use Rattle.fit.proofs.Laws.Bools.{either, is-false, not-both}
 use Rattle.jumps.specs.Least.{greatest}
 use Rattle.jumps.specs.Jumps.{lastJump, nextJump, afterJump, mismatchAt, mismatchJump, fullAt, fullJump}
-use Rattle.jumps.proofs.Laws.Leasts.{greatest-le, greatest-holds, greatest-none, greatest-hit, least-ge, least-le}
+use Rattle.jumps.proofs.Laws.Leasts.{greatest-le, greatest-holds, greatest-hit, least-ge, least-le}
 
 module _ (near : ℕ → ℕ → Bool) (m a : ℕ) where
   pub last-jump-le : lastJump near m a ≤ m

@@ -3,7 +3,6 @@ use Prim.Native.Nat.{_-_}
 use mathlib.Core.Path.{sym, _∙_}
 use native.Mathlib.Omega.{arith}
 use lib.ListN.{length}
-use Rattle.fit.specs.Reading.{alike}
 use Rattle.jumps.proofs.Laws.Conditions.{AllAlike, alike-start, alike-more, alike-miss, alike-end}
 use Rattle.tables.proofs.several.all_agree.Statement.{statement}
 use Rattle.tables.proofs.several.all_agree.Tie as tie
