@@ -1,10 +1,10 @@
 // What a search needs to compare points: their order, and the mismatch jump of each.
 ghost use mathlib.Core.Path.{_≡_};
 ghost use Prim.Native.Nat.{_≤_, _<_};
-ghost use lib.ListN.{length, getD};
+ghost use lib.ListN.{length};
 ghost use Rattle.fit.specs.Refusal.{maxPoints};
 ghost use Rattle.jumps.specs.Jumps.{agreesAt, mismatchAt, mismatchJump};
-ghost use Rattle.comparing.specs.Order.{compareOrder, agreeing};
+ghost use Rattle.comparing.specs.Order.{compareOrder, ComparedAt, agreeing};
 ghost use Rattle.tables.specs.Holding.{Holds, Usable};
 ghost use Rattle.comparing.specs.Writing.{HoldsOrder, HoldsAgreeing};
 
@@ -58,7 +58,7 @@ fn agreeing_table(points: &[u8], d: u32, order: &[u8]) -> [u8; 64]
 
 // Whether k passes for point p, which is compared at position j.
 fn mismatch_at(points: &[u8], d: u32, agreed: &[u8], j: usize, p: usize, k: usize) -> bool
-    requires { ⌜ Usable d (now points) × (j < length (now points)) × (p ≡ getD (compareOrder d (now points)) j 0) × (k < length (now points)) × HoldsAgreeing d (now points) (now agreed) ⌝ }
+    requires { ⌜ Usable d (now points) × ComparedAt d (now points) j p × HoldsAgreeing d (now points) (now agreed) × (k < length (now points)) ⌝ }
     ensures { λ r. ⌜ r ≡ mismatchAt d (now (points .entry)) p k ⌝ }
 {
     if j <= super::order::size(agreed[k]) {
@@ -70,7 +70,7 @@ fn mismatch_at(points: &[u8], d: u32, agreed: &[u8], j: usize, p: usize, k: usiz
 
 // The mismatch jump of point p, which is compared at position j.
 fn mismatch_jump(points: &[u8], d: u32, agreed: &[u8], j: usize, p: usize) -> usize
-    requires { ⌜ Usable d (now points) × (j < length (now points)) × (p ≡ getD (compareOrder d (now points)) j 0) × HoldsAgreeing d (now points) (now agreed) ⌝ }
+    requires { ⌜ Usable d (now points) × ComparedAt d (now points) j p × HoldsAgreeing d (now points) (now agreed) ⌝ }
     ensures { λ r. ⌜ (r ≡ mismatchJump d (now (points .entry)) p) × (r ≤ length (now (points .entry))) ⌝ }
 {
     let mut k = 1;

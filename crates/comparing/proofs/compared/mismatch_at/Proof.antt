@@ -15,19 +15,19 @@ size-requires c κs = search needs
 lone-at-requires : tie.Need-lone-at-requires
 lone-at-requires c κs =
     let pre = c .before .before .before .before .before .pre in
-    (pre .0, rw (pre .2) (order-point _ _ _ (pre .1)))
+    (pre .0, rw (pre .1 .point) (order-point _ _ _ (pre .1 .inside)))
 
 returns : tie.Need-returns
 returns c =
     let pre = c .before .before .before .before .before .before .pre in
-    let agreed = c .before .before .size .ensures ∙ pre .4 .at _ (pre .3) in
-    c .lone-at .ensures ∙ sym (agreeing-mismatch _ _ _ _ _ (pre .1) (pre .2) (omega (arith, agreed, c .before .if1 .taken)))
+    let agreed = c .before .before .size .ensures ∙ pre .2 .at _ (pre .3) in
+    c .lone-at .ensures ∙ sym (agreeing-mismatch _ _ _ _ _ (pre .1 .inside) (pre .1 .point) (omega (arith, agreed, c .before .if1 .taken)))
 
 returns-2 : tie.Need-returns-2
 returns-2 c =
     let pre = c .before .before .before .before .before .pre in
-    let agreed = c .before .size .ensures ∙ pre .4 .at _ (pre .3) in
-    sym (no-mismatch _ _ _ _ _ (pre .1) (pre .2) (omega (arith, agreed, c .if1 .left)))
+    let agreed = c .before .size .ensures ∙ pre .2 .at _ (pre .3) in
+    sym (no-mismatch _ _ _ _ _ (pre .1 .inside) (pre .1 .point) (omega (arith, agreed, c .if1 .left)))
 
 pub mismatch-at-spec : {M : Type 1} → statement M
 mismatch-at-spec =

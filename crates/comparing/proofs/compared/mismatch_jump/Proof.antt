@@ -20,7 +20,7 @@ loop-holds c = mismatch-start _ _ _ (omega arith)
 mismatch-at-requires : tie.Need-mismatch-at-requires Inv-loop μ-loop
 mismatch-at-requires c κs =
     let pre = c .before .before .before .before .pre in
-    (pre .0, pre .1, pre .2, omega arith, pre .3)
+    (pre .0, pre .1, pre .2, omega arith)
 
 returns : tie.Need-returns Inv-loop μ-loop
 returns c = (up-hit (c .before .before .before .loop .inv) (c .before .mismatch-at .ensures) (c .if1 .taken), omega arith)

@@ -29,7 +29,7 @@ size-requires c κs = tt
 mismatch-jump-requires : tie.Need-mismatch-jump-requires Inv-loop μ-loop
 mismatch-jump-requires c κs =
     let pre = c .before .before .before .before .before .before .before .pre in
-    (pre .0, omega arith, c .size .ensures ∙ pre .1 .at _ (omega arith), pre .2)
+    (pre .0, record { inside = omega arith; point = c .size .ensures ∙ pre .1 .at _ (omega arith) }, pre .2)
 
 cast-table : tie.Need-cast-table Inv-loop μ-loop
 cast-table c = omega (arith, c .mismatch-jump .ensures .1)
