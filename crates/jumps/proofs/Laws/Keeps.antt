@@ -15,6 +15,10 @@ use Rattle.jumps.proofs.Laws.Frame.{not-beyond}
 use Rattle.jumps.proofs.Laws.OneReading.{last-by-passes, next-by-passes}
 use Rattle.jumps.proofs.Laws.Demands.{after-check-passes, mismatch-not-too-long, full-not-too-long}
 
+-- a recording of bytes is one of readings
+pub readings-of : (y : List ℕ) → ((i : ℕ) → getD y i 0 < 256) → Readings y
+readings-of y h i = omega (arith, h i)
+
 -- the evidence, from what a searcher sees at the window at s
 module _ (y : List ℕ) (s m : ℕ) where
   pub last-is : 1 ≤ m → s + m ≤ length y → LastIs m (readingAt y s (m - 1)) y s
