@@ -73,7 +73,7 @@ pub fn after_check(points: &[u8], delta: u32, gamma: u32) -> Jump
     if number != 0 {
         return answer(number, 0);
     }
-    let d = tables::smaller(delta, gamma);
+    let d = fit::smaller(delta, gamma);
     let jump = tables::after_jump(points, d);
     answer(0, jump)
 }
@@ -86,7 +86,7 @@ pub fn full(points: &[u8], delta: u32, gamma: u32) -> Jump
     if number != 0 {
         return answer(number, 0);
     }
-    let d = tables::smaller(delta, gamma);
+    let d = fit::smaller(delta, gamma);
     let jump = tables::full_jump(points, d);
     answer(0, jump)
 }
@@ -100,7 +100,7 @@ pub fn mismatch(points: &[u8], delta: u32, gamma: u32, p: usize) -> Jump
     if number != 0 {
         return answer(number, 0);
     }
-    let d = tables::smaller(delta, gamma);
+    let d = fit::smaller(delta, gamma);
     let made = comparing::compared_of(points, d);
     let jump = size(made.jumps[p - 1]);
     answer(0, jump)
