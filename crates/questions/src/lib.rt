@@ -8,6 +8,7 @@ ghost use Rattle.jumps.specs.Jumps.{lastJump, nextJump, afterJump, mismatchJump
 ghost use Rattle.questions.specs.Asking.{jumpAnswer, mismatchAskedOf};
 
 // The number of the refusal and a jump of 0; or 0 and the jump.
+#[repr(C)]
 pub struct Jump {
     pub refusal: u32,
     pub jump: usize,

@@ -1,5 +1,5 @@
 -- Laws of maximal's walk: how it goes, that it rises, and that it has every place. Assumes nothing.
-use mathlib.Core.Path.{_≡_, refl, sym, ap, subst, _∙_}
+use mathlib.Core.Path.{_≡_, refl, sym}
 use mathlib.Core.Bool.{Bool, true, false, cond}
 use mathlib.Core.Logic.{⊎-elim}
 use mathlib.Core.List.{List, [], _∷_, List·Memᴰ}
@@ -22,11 +22,12 @@ use Rattle.jumps.specs.Jumps.{nextJump}
 use Rattle.jumps.specs.Demand.{Readings}
 use Rattle.jumps.proofs.Laws.Sizes.{next-jump-ge, next-jump-le, mismatch-jump-le, full-jump-le}
 use Rattle.jumps.proofs.Laws.OneReading.{next-same}
-use Rattle.jumps.proofs.Laws.Keeps.{next-keeps, all-near, mismatch-seen, full-keeps, mismatch-keeps}
+use Rattle.jumps.proofs.Laws.Keeps.{next-keeps, full-keeps, mismatch-keeps}
 use Rattle.comparing.specs.Leading.{leading}
 use Rattle.comparing.specs.Order.{compareOrder}
 use Rattle.comparing.proofs.Laws.Leadings.{leading-at, leading-stop}
-use Rattle.comparing.proofs.Laws.Orders.{order-length, order-point, order-has, earlier-before}
+use Rattle.comparing.proofs.Laws.Orders.{order-length, order-point}
+use Rattle.comparing.proofs.Laws.Seeing.{first-far, none-far}
 use Rattle.maximal.specs.Walk.{nearAt, comparedJump, largerJump, maximalNext, maximalWalk}
 use Rattle.maximal.proofs.Laws.Steps.{far-jump, no-far-jump}
 
@@ -104,16 +105,12 @@ module _ (delta gamma : ℕ) (x y : List ℕ) (ok : Accepted delta gamma x y) (r
         (λ (l : length order ≤ leading near order).
         rw (no-far-jump d x y s order l)
         (full-keeps delta gamma x y (ok .asked) s t place later readings
-        (all-near d x y s inside
-        (λ q h. let r = order-has d x q h in
-        subst (λ (p : ℕ). near p ≡ true) (r .2) (leading-at near order (r .0) (omega (arith, r .1, order-length d x)))))))
+        (none-far d x y s inside (λ i h. leading-at near order i (omega (arith, order-length d x))))))
         (λ (l : leading near order < length order).
         rw (far-jump d x y s order l)
         (mismatch-keeps delta gamma x y (ok .asked) s t place later readings (getD order (leading near order) 0)
         (order-point d x (leading near order) (omega (arith, order-length d x)))
-        (mismatch-seen d x y s inside (getD order (leading near order) 0)
-        (λ q h e. let r = earlier-before d x q (leading near order) h e in subst (λ (p : ℕ). near p ≡ true) (r .2) (leading-at near order (r .0) (r .1)))
-        (leading-stop near order l))))
+        (first-far d x y s inside (leading near order) (λ i h. leading-at near order i h) (leading-stop near order l))))
         (le-or-lt (length order) (leading near order))
 
     next-reading-keeps : s + nextJump (fitOf d x) (length x) (readingAt y s (length x)) ≤ t
