@@ -49,7 +49,8 @@ fn report_on(
     list: &mut [u32],
 ) -> usize {
     let found = plain::search(points, delta, gamma, recording, list);
+    let others = lines::ask_others(points, delta, gamma, recording);
     let at = lines::searched(page, 0, b"plain", found);
-    let at = lines::others(page, at, points, delta, gamma, recording);
+    let at = lines::others_told(page, at, others);
     lines::places(page, at, list, found.total)
 }

@@ -18,71 +18,34 @@ pub(crate) fn searched(page: &mut [u8], at: usize, name: &[u8], found: Search) -
     page::put_text(page, end, b"\n")
 }
 
-// The lines of the other searchers. They find the places that plain finds, so nothing is lent to them.
-pub(crate) fn others(
-    page: &mut [u8],
-    at: usize,
-    points: &[u8],
-    delta: u32,
-    gamma: u32,
-    recording: &[u8],
-) -> usize {
-    let at = packed(page, at, points, delta, gamma, recording);
-    let at = last(page, at, points, delta, gamma, recording);
-    let at = skip(page, at, points, delta, gamma, recording);
-    maximal(page, at, points, delta, gamma, recording)
+// What the searchers other than plain found.
+pub(crate) struct Others {
+    packed: Search,
+    last: Search,
+    skip: Search,
+    maximal: Search,
 }
 
-fn packed(
-    page: &mut [u8],
-    at: usize,
-    points: &[u8],
-    delta: u32,
-    gamma: u32,
-    recording: &[u8],
-) -> usize {
+// They find the places that plain finds, so nothing is lent to them.
+pub(crate) fn ask_others(points: &[u8], delta: u32, gamma: u32, recording: &[u8]) -> Others {
     let mut none = [0u32; 0];
-    let found = packed::search(points, delta, gamma, recording, &mut none);
-    searched(page, at, b"packed", found)
+    let packed = packed::search(points, delta, gamma, recording, &mut none);
+    let last = last::search(points, delta, gamma, recording, &mut none);
+    let skip = skip::search(points, delta, gamma, recording, &mut none);
+    let maximal = maximal::search(points, delta, gamma, recording, &mut none);
+    Others {
+        packed,
+        last,
+        skip,
+        maximal,
+    }
 }
 
-fn last(
-    page: &mut [u8],
-    at: usize,
-    points: &[u8],
-    delta: u32,
-    gamma: u32,
-    recording: &[u8],
-) -> usize {
-    let mut none = [0u32; 0];
-    let found = last::search(points, delta, gamma, recording, &mut none);
-    searched(page, at, b"last", found)
-}
-
-fn skip(
-    page: &mut [u8],
-    at: usize,
-    points: &[u8],
-    delta: u32,
-    gamma: u32,
-    recording: &[u8],
-) -> usize {
-    let mut none = [0u32; 0];
-    let found = skip::search(points, delta, gamma, recording, &mut none);
-    searched(page, at, b"skip", found)
-}
-
-fn maximal(
-    page: &mut [u8],
-    at: usize,
-    points: &[u8],
-    delta: u32,
-    gamma: u32,
-    recording: &[u8],
-) -> usize {
-    let mut none = [0u32; 0];
-    let found = maximal::search(points, delta, gamma, recording, &mut none);
-    searched(page, at, b"maximal", found)
+pub(crate) fn others_told(page: &mut [u8], at: usize, found: Others) -> usize {
+    let at = searched(page, at, b"packed", found.packed);
+    let at = searched(page, at, b"last", found.last);
+    let at = searched(page, at, b"skip", found.skip);
+    searched(page, at, b"maximal", found.maximal)
 }
 
 // The first `total` entries of the list, one to a line.
