@@ -8,7 +8,7 @@ use lib.ListN.{length, set}
 use Rattle.fit.specs.Rule.{Rule, isPlaceBy, SameRule}
 use Rattle.fit.specs.Place.{ruleOf, isPlace, windows}
 use Rattle.fit.specs.Refusal.{refusalOf, Accepted}
-use Rattle.fit.specs.Listing.{upTo}
+use Rattle.fit.specs.Listing.{upTo, places, overlay}
 use Rattle.fit.specs.Answer.{Sought, soughtBy, soughtOf, all, Lent, lent, begun, outcome, filled, Answer, Answers, noted, listed, Noted}
 use Rattle.fit.specs.declared.answer.Search.{Search}
 use Rattle.fit.proofs.Laws.Listings.{up-same}
@@ -53,6 +53,27 @@ same-answer r′ delta gamma x y tried ok q a =
     (up-same (isPlaceBy r′ (length x) gamma y) (isPlace delta gamma x y) (windows (length x) (length y))
     (λ s l. same-place (length x) r′ (ruleOf delta x) q gamma y s))
     a)
+
+-- ---- what an answer says, in document 01's words
+-- what is sought is the list of places
+pub sought-places : (delta gamma : ℕ) (x y : List ℕ) → all (soughtOf delta gamma x y) ≡ places delta gamma x y
+unfolding places
+sought-places delta gamma x y = refl
+
+module _ (delta gamma : ℕ) (x y : List ℕ) (tried : ℕ) (entry final : List ℕ) (r : Search)
+    (a : Answers delta gamma x y tried (lent entry) r (lent final)) where
+  -- accepted: "the total of places and the count of windows tried", and the first places as many as fit, entries beyond untouched
+  pub answer-accepted : Accepted delta gamma x y
+      → (r ≡ record { refusal = 0; total = length (places delta gamma x y); tried = tried }) × (final ≡ overlay (places delta gamma x y) entry)
+  unfolding outcome filled
+  answer-accepted ok =
+      let none = none-exactly delta gamma x y .1 ok in
+      (rw (none, sought-places delta gamma x y) at (a .result), ap (λ (v : Lent). v .list) (rw (none, sought-places delta gamma x y) at (a .lists)))
+
+  -- refused: "its number with all counts 0", and "the lent list keeps every entry"
+  pub answer-refused : (num : ℕ) → refusalOf delta gamma x y ≡ suc num → (r ≡ record { refusal = suc num; total = 0; tried = 0 }) × (final ≡ entry)
+  unfolding outcome filled
+  answer-refused num e = (rw e at (a .result), ap (λ (v : Lent). v .list) (rw e at (a .lists)))
 
 -- ---- no second answer satisfies the statement
 pub only-answer : (num : ℕ) (t : Sought) (tried : ℕ) (entry : Lent) (r r′ : Search) (l l′ : Lent)
