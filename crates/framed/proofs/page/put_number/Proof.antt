@@ -1,0 +1,46 @@
+use Rattle.framed.proofs.Laws.Pages.{number-put}
+use borrow.Author.Needs.{needs}
+use Rattle.framed.proofs.page.put_number.Statement.{statement}
+use Rattle.framed.proofs.page.put_number.Tie as tie
+use Rattle.framed.proofs.page.put_number.Reads as reads
+use Rattle.framed.proofs.page.put_number.Lts as lts
+use Rattle.framed.proofs.page.put_text.Reads as put-text-reads
+use Rattle.io.proofs.decimal.Reads as decimal-reads
+
+-- src/page.rt:25:9
+decimal-requires : tie.Need-decimal-requires
+decimal-requires c κs = search needs
+
+-- src/page.rt:26:24
+array-share-prefix-digits : tie.Need-array-share-prefix-digits
+array-share-prefix-digits c = search needs
+
+-- src/page.rt:26:24
+slice-aggregate-put-text : tie.Need-slice-aggregate-put-text
+slice-aggregate-put-text c = search needs
+
+-- src/page.rt:26:5
+put-text-requires : tie.Need-put-text-requires
+put-text-requires c κs = search needs
+
+-- src/page.rt:21:1
+same-length : tie.Need-same-length
+same-length c = search needs
+
+-- src/page.rt:21:1
+returns : tie.Need-returns
+returns c =
+    let done = c .before .before in
+    let made = done .before .before .before .decimal .ensures in
+    number-put _ _ _ _ _ _ _ (made .1 .0) (made .1 .1) (done .put-text .ensures)
+
+pub put-number-spec : {M : Type 1} → statement M
+put-number-spec =
+    tie.close
+    (tie.spec
+    decimal-requires
+    array-share-prefix-digits
+    slice-aggregate-put-text
+    put-text-requires
+    same-length
+    returns)
