@@ -1,6 +1,5 @@
 // What every public function answers in one case.
 use super::lines;
-use fit::Search;
 
 const MOST_ROOM: usize = 200;
 
@@ -14,7 +13,7 @@ pub(crate) fn answer(points: &[u8], delta: u32, gamma: u32, recording: &[u8], ro
     if MOST_ROOM < room {
         return;
     }
-    let at = lists(
+    let at = searches(
         points,
         delta,
         gamma,
@@ -26,17 +25,11 @@ pub(crate) fn answer(points: &[u8], delta: u32, gamma: u32, recording: &[u8], ro
 }
 
 // A line for each searcher, each with a list whose entries are marked anew.
-fn lists(
-    points: &[u8],
-    delta: u32,
-    gamma: u32,
-    recording: &[u8],
-    list: &mut [u32],
-    page: &mut [u8],
-) -> usize {
-    let at = 0;
+fn searches(points: &[u8], delta: u32, gamma: u32, recording: &[u8], list: &mut [u32], page: &mut [u8]) -> usize {
     lines::mark(list);
     let found = plain::search(points, delta, gamma, recording, list);
-    let at = lines::searched(page, at, b"plain", found, list);
-    at
+    let at = lines::searched(page, 0, b"plain", found, list);
+    lines::mark(list);
+    let found = skip::search(points, delta, gamma, recording, list);
+    lines::searched(page, at, b"skip", found, list)
 }

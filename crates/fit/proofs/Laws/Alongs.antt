@@ -52,7 +52,7 @@ unfolding listed
 miss-lists s at l = refl
 
 -- no lent list changes its length
-listed-long : (b : Bool) (s at : ℕ) (l : Lent) → length (listed b s at l .list) ≡ length (l .list)
+pub listed-long : (b : Bool) (s at : ℕ) (l : Lent) → length (listed b s at l .list) ≡ length (l .list)
 unfolding listed
 listed-long true s at l = length-set (l .list) at s
 listed-long false s at l = refl

@@ -11,8 +11,8 @@ use lib.Seq.{take-suc, length-take-le, getD-append-add}
 use lib.Dec.{leb, eqb}
 use borrow.Author.Tests.{leb-true, le-leb, eqb-true, eq-eqb}
 use Rattle.fit.specs.Reading.{lowest, diff, near}
-use Rattle.fit.specs.Rule.{SameRule}
-use Rattle.fit.specs.Place.{ruleOf}
+use Rattle.fit.specs.Rule.{SameRule, nearBy}
+use Rattle.fit.specs.Place.{fitOf, ruleOf, dOf}
 use Rattle.fit.specs.Listing.{overlay}
 use Rattle.fit.specs.Refusal.{maxPoints, maxReadings, Accepted}
 use Rattle.fit.specs.Spans.{spanFits, ruleIn, spanOf, spansFor, spansOf, Ready}
@@ -20,6 +20,8 @@ use Rattle.fit.specs.Answer.{soughtBy, Lent, Answer, Answers}
 use Rattle.fit.specs.declared.answer.Search.{Search}
 use Rattle.fit.proofs.Laws.Bools.{and-left, and-right, and-both, same-test}
 use Rattle.fit.proofs.Laws.Readings.{near-le, near-lowest, le-near}
+use Rattle.fit.proofs.Laws.Rules.{same-near}
+use Rattle.fit.proofs.Laws.Places.{near-derived}
 use Rattle.fit.proofs.Laws.Answers.{same-answer}
 use Rattle.fit.proofs.Laws.Listings.{overlay-none, overlay-more, length-overlay, overlay-at}
 
@@ -130,6 +132,9 @@ module _ (delta gamma : ℕ) (x y spans : List ℕ) (made : spans ≡ spansOf de
 
   pub compiled-rule : SameRule (length x) (ruleIn spans) (ruleOf delta x)
   compiled-rule = rw made (same-rule delta x (ok .asked .few))
+
+  pub compiled-near : (i a : ℕ) → i < length x → nearBy (ruleIn spans) gamma i a ≡ fitOf (dOf delta gamma) x i a
+  compiled-near i a l = same-near (length x) (ruleIn spans) (ruleOf delta x) compiled-rule gamma i a l ∙ near-derived delta gamma x i a
 
   pub compiled-answer : (tried tried′ : ℕ) {entry final : Lent} {r : Search} → tried ≡ tried′
       → Answer 0 (soughtBy (ruleIn spans) (length x) gamma y) tried entry r final → Answers delta gamma x y tried′ entry r final

@@ -5,7 +5,7 @@ use Rattle.trial.proofs.case.answer.Statement.{statement}
 use Rattle.trial.proofs.case.answer.Tie as tie
 use Rattle.trial.proofs.case.answer.Reads as reads
 use Rattle.trial.proofs.case.answer.Lts as lts
-use Rattle.trial.proofs.case.lists.Reads as lists-reads
+use Rattle.trial.proofs.case.searches.Reads as searches-reads
 use Rattle.trial.proofs.lines.write.Reads as write-reads
 
 -- src/case.rt:15:9
@@ -17,16 +17,16 @@ array-borrow-prefix-list : tie.Need-array-borrow-prefix-list
 array-borrow-prefix-list c = search needs
 
 -- src/case.rt:17:53
-slice-aggregate-lists : tie.Need-slice-aggregate-lists
-slice-aggregate-lists c = sym (length-take-le _ _ (c .before .if1 .left))
+slice-aggregate-searches : tie.Need-slice-aggregate-searches
+slice-aggregate-searches c = sym (length-take-le _ _ (c .before .if1 .left))
 
 -- src/case.rt:17:72
-slice-aggregate-lists-2 : tie.Need-slice-aggregate-lists-2
-slice-aggregate-lists-2 c = search needs
+slice-aggregate-searches-2 : tie.Need-slice-aggregate-searches-2
+slice-aggregate-searches-2 c = search needs
 
 -- src/case.rt:17:9
-lists-requires : tie.Need-lists-requires
-lists-requires c κs = search needs
+searches-requires : tie.Need-searches-requires
+searches-requires c κs = search needs
 
 -- src/case.rt:18:18
 slice-aggregate-write : tie.Need-slice-aggregate-write
@@ -46,9 +46,9 @@ answer-spec =
     (tie.spec
     returns
     array-borrow-prefix-list
-    slice-aggregate-lists
-    slice-aggregate-lists-2
-    lists-requires
+    slice-aggregate-searches
+    slice-aggregate-searches-2
+    searches-requires
     slice-aggregate-write
     write-requires
     returns-2)

@@ -1,0 +1,2 @@
+pub mod Tryings
+pub mod Walks

@@ -1,0 +1,66 @@
+-- Laws of several windows tried one after the other. Nobody else opens these definitions. Assumes nothing.
+use mathlib.Core.Path.{_≡_, refl, sym, ap, _∙_}
+use mathlib.Core.List.{List, [], _∷_, _++_}
+use Prim.Native.Nat.{ℕ, zero, suc, _+_, _≤_, _<_}
+use native.Mathlib.Nat.{le-refl}
+use native.Mathlib.Omega.{arith}
+use lib.ListN.{length}
+use Rattle.fit.specs.Answer.{Sought, Lent, Tried, noted, listed}
+use Rattle.fit.specs.declared.answer.Search.{Search}
+use Rattle.fit.proofs.Laws.Answers.{tried-one, order-one}
+use Rattle.fit.proofs.Laws.Alongs.{Along, along-tried, along-on, listed-long}
+use Rattle.skip.specs.Trying.{countsAfter, listsAfter, TriedAll}
+
+pub tried-none : (t : Sought) (r : Search) (l : Lent) → TriedAll t [] r l r l
+unfolding countsAfter listsAfter
+tried-none t r l = record { counts = refl; lists = refl }
+
+-- the first of them, and then the others
+pub tried-first : (t : Sought) (s : ℕ) (ws : List ℕ) {before r₁ r : Search} {entry l₁ final : Lent}
+    → Tried t s before entry r₁ l₁ → TriedAll t ws r₁ l₁ r final → TriedAll t (s ∷ ws) before entry r final
+unfolding countsAfter listsAfter
+tried-first t s ws a b = record { counts = rw (← a .counts) (b .counts); lists = rw (← a .counts, ← a .lists) (b .lists) }
+
+-- a walk whose next windows are these
+pub along-all : (t : Sought) (ws : List ℕ) (bound : ℕ) {walk rest : List ℕ} {entry held held′ : Lent} {before r : Search}
+    → Along t walk (ws ++ rest) bound entry held before → TriedAll t ws before held r held′ → Along t walk rest (bound + length ws) entry held′ r
+unfolding countsAfter listsAfter
+along-all t [] bound f a = rw (a .counts, a .lists) (along-on refl (omega arith) f)
+along-all t (s ∷ ws) bound f a =
+    along-on refl (omega arith)
+    (along-all t ws (suc bound) (along-tried t s bound (suc bound) f (record { counts = refl; lists = refl }) (le-refl (suc bound)))
+    (record { counts = a .counts; lists = a .lists }))
+
+-- ---- the windows `whole` are being tried, `left` are still to be, and at most `bound` were tried in all
+pub record Trying (t : Sought) (whole left : List ℕ) (bound : ℕ) (entry held : Lent) (before found : Search) : Type 0 where
+  pub order : found .total ≤ found .tried
+  pub room : found .tried ≤ bound
+  pub long : length (held .list) ≡ length (entry .list)
+  pub rest : (r : Search) (final : Lent) → TriedAll t left found held r final → TriedAll t whole before entry r final
+
+pub trying-start : (t : Sought) (whole : List ℕ) (bound : ℕ) (entry : Lent) (before : Search) → before .total ≤ before .tried → before .tried ≤ bound
+    → Trying t whole whole bound entry entry before before
+trying-start t whole bound entry before o h = record { order = o; room = h; long = refl; rest = λ r final a. a }
+
+pub trying-next : (t : Sought) (s bound bound′ : ℕ) {whole left left′ : List ℕ} {entry held held′ : Lent} {before found found′ : Search}
+    → Trying t whole left bound entry held before found → left ≡ s ∷ left′ → Tried t s found held found′ held′ → bound < bound′
+    → Trying t whole left′ bound′ entry held′ before found′
+trying-next t s bound bound′ {left′ = left′} {held = held} {found = found} f e a h = record {
+  order = rw (a .counts) (order-one (t .place s) found (f .order));
+  room = omega (arith, tried-one (t .place s) found, ap (λ (r : Search). r .tried) (a .counts), f .room);
+  long = ap (λ (l : Lent). length (l .list)) (a .lists) ∙ listed-long (t .place s) s (found .total) held ∙ f .long;
+  rest = λ r final b. f .rest r final (rw e (tried-first t s left′ a b));
+}
+
+pub trying-pass : (t : Sought) (bound bound′ : ℕ) {whole left left′ : List ℕ} {entry held : Lent} {before found : Search}
+    → Trying t whole left bound entry held before found → left ≡ left′ → bound ≤ bound′ → Trying t whole left′ bound′ entry held before found
+trying-pass t bound bound′ f e h = record {
+  order = f .order;
+  room = omega (arith, f .room);
+  long = f .long;
+  rest = λ r final b. f .rest r final (rw e b);
+}
+
+pub trying-end : (t : Sought) (bound : ℕ) {whole left : List ℕ} {entry held : Lent} {before found : Search}
+    → Trying t whole left bound entry held before found → left ≡ [] → TriedAll t whole before entry found held
+trying-end t bound {held = held} {found = found} f e = f .rest found held (rw e (tried-none t found held))

@@ -1,0 +1,19 @@
+-- Several windows tried one after the other: the counts, and what was lent. Assumes nothing.
+use Prim.Native.Nat.{ℕ}
+use mathlib.Core.Path.{_≡_}
+use mathlib.Core.List.{List, [], _∷_}
+use Rattle.fit.specs.Answer.{Sought, Lent, noted, listed}
+use Rattle.fit.specs.declared.answer.Search.{Search}
+
+unfoldable pub countsAfter : Sought → List ℕ → Search → Search
+countsAfter t [] r = r
+countsAfter t (s ∷ ws) r = countsAfter t ws (noted (t .place s) r)
+
+unfoldable pub listsAfter : Sought → List ℕ → Search → Lent → Lent
+listsAfter t [] r l = l
+listsAfter t (s ∷ ws) r l = listsAfter t ws (noted (t .place s) r) (listed (t .place s) s (r .total) l)
+
+-- the windows ws were tried
+pub record TriedAll (t : Sought) (ws : List ℕ) (before : Search) (entry : Lent) (r : Search) (final : Lent) : Type 0 where
+  pub counts : r ≡ countsAfter t ws before
+  pub lists : final ≡ listsAfter t ws before entry

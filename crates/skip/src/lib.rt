@@ -1,0 +1,82 @@
+// The skip searcher: it probes every m-th reading, and tries the windows that put a near point there.
+use fit::Search;
+ghost use mathlib.Core.Path.{_≡_};
+ghost use Prim.Native.Nat.{_+_, _≤_, _<_};
+ghost use lib.ListN.{length};
+ghost use Rattle.fit.specs.Rule.{nearBy};
+ghost use Rattle.fit.specs.Place.{fitOf, dOf};
+ghost use Rattle.fit.specs.Spans.{ruleIn, Ready};
+ghost use Rattle.fit.specs.Answer.{soughtBy, lent, begun, Answer, Answers};
+ghost use Rattle.skip.specs.Walk.{probed, skipWalk};
+ghost use Rattle.skip.specs.Trying.{TriedAll};
+
+// Lists the places of the profile in the recording, and counts them and the windows tried.
+pub fn search(points: &[u8], delta: u32, gamma: u32, recording: &[u8], list: &mut [u32]) -> Search
+    ensures { λ r. ⌜
+        Answers delta gamma (now (points .entry)) (now (recording .entry))
+        (length (skipWalk (fitOf (dOf delta gamma) (now (points .entry))) (length (now (points .entry))) (now (recording .entry))))
+        (lent (now (list .entry))) r (lent (now (list .exit))) ⌝ }
+{
+    let found = fit::begin(points, delta, gamma, recording);
+    if found.refusal != 0 {
+        return found;
+    }
+    let spans = fit::spans_of(points, delta);
+    over_spans(&spans, points.len(), gamma, recording, list, found)
+}
+
+// The same for a profile of m points that is compiled to spans, whatever its points are.
+pub fn over_spans(
+    spans: &[u16],
+    m: usize,
+    gamma: u32,
+    recording: &[u8],
+    list: &mut [u32],
+    start: Search,
+) -> Search
+    requires { ⌜ Ready (now spans) m gamma (length (now recording)) × (start ≡ begun 0) ⌝ }
+    ensures { λ r. ⌜
+        Answer 0 (soughtBy (ruleIn (now (spans .entry))) m gamma (now (recording .entry)))
+        (length (skipWalk (nearBy (ruleIn (now (spans .entry))) gamma) m (now (recording .entry))))
+        (lent (now (list .entry))) r (lent (now (list .exit))) ⌝ }
+{
+    let mut found = start;
+    let mut q = m - 1;
+    while q < recording.len() {
+        found = try_probed(spans, m, gamma, recording, list, q, found);
+        q += m;
+    }
+    found
+}
+
+// Tries the windows of the probe at q: those that put a near point there, the highest point first, and that lie inside.
+fn try_probed(
+    spans: &[u16],
+    m: usize,
+    gamma: u32,
+    recording: &[u8],
+    list: &mut [u32],
+    q: usize,
+    before: Search,
+) -> Search
+    requires { ⌜ Ready (now spans) m gamma (length (now recording)) × (q < length (now recording)) × (m ≤ q + 1) ⌝ }
+    requires { ⌜ (before .total ≤ before .tried) × (before .tried + m ≤ q + 1) ⌝ }
+    ensures { λ r. ⌜
+        TriedAll (soughtBy (ruleIn (now (spans .entry))) m gamma (now (recording .entry)))
+        (probed (nearBy (ruleIn (now (spans .entry))) gamma) m (now (recording .entry)) q m) before
+        (lent (now (list .entry))) r (lent (now (list .exit))) ⌝ }
+{
+    let n = recording.len();
+    let a = recording[q];
+    let mut found = before;
+    let mut i = m;
+    while 0 < i {
+        i -= 1;
+        if fit::may_stand(spans, gamma, i, a) {
+            if q - i + m <= n {
+                found = fit::try_at(spans, m, gamma, recording, list, q - i, found);
+            }
+        }
+    }
+    found
+}
