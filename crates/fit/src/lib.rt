@@ -16,6 +16,7 @@ pub use limits::Tolerance;
 pub use limits::asked;
 pub use limits::refusal;
 pub use reading::are_alike;
+pub use reading::differ;
 pub use reading::is_near;
 pub use reading::least_near;
 pub use spans::may_stand;

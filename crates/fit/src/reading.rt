@@ -7,7 +7,7 @@ ghost use Rattle.fit.specs.Reading.{lowest, highest, diff, alike, near};
 const LOWEST: u32 = 0;
 
 // The difference of a and b.
-pub(crate) fn differ(a: u8, b: u8) -> u32
+pub fn differ(a: u8, b: u8) -> u32
     ensures { λ r. ⌜ (r ≡ diff a b) × (r ≤ highest) ⌝ }
 {
     if a < b {

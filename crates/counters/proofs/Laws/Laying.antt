@@ -1,0 +1,52 @@
+-- A word laid out counter by counter, each put in below the others. Assumes nothing.
+use mathlib.Core.Path.{_≡_, refl, sym, ap, _∙_}
+use Prim.Native.Nat.{ℕ, zero, suc, _+_, _*_, _%_, _^_, _≤_, _<_}
+use native.Mathlib.Nat.{mul-suc, le-trans, le-of-eq, not-suc-le-zero, mul-le-mul-left}
+use native.Mathlib.Omega.{arith}
+use lib.Arith.{digits-lt}
+use lib.Pow.{pow-pos, pow-add, shl-exact}
+use lib.Bits.{bitOr, or-shifted}
+use Rattle.counters.specs.Word.{wordBits, counter, Laid}
+use Rattle.counters.specs.Sums.{moved}
+use Rattle.counters.proofs.Laws.Fields.{first, later, same-words}
+
+module _ (l : ℕ) where
+  pub laid-none : (f : ℕ → ℕ) → Laid l 0 0 f
+  laid-none f = record { bound = pow-pos (l * 0); each = λ i h. absurd (not-suc-le-zero h) }
+
+  -- the counters hold the same by another rule
+  pub laid-same : {m w : ℕ} {f f′ : ℕ → ℕ} → Laid l m w f → ((i : ℕ) → i < m → f i ≡ f′ i) → Laid l m w f′
+  laid-same h e = record { bound = h .bound; each = λ i k. h .each i k ∙ e i k }
+
+  -- no second word holds the same
+  pub no-second-word : (m w v : ℕ) (f : ℕ → ℕ) → Laid l m w f → Laid l m v f → w ≡ v
+  no-second-word m w v f h k = same-words l m w v (h .bound) (k .bound) (λ i r. h .each i r ∙ sym (k .each i r))
+
+  -- the machine's shift, with v put in at the first: one counter more, and nothing is lost while it fits the word
+  pub laid-more : (m w v : ℕ) (f : ℕ → ℕ) → l * suc m ≤ wordBits → v < 2 ^ l → Laid l m w f
+      → Laid l (suc m) (bitOr (w * 2 ^ l % 2 ^ wordBits) v) (moved v f)
+  unfolding moved
+  laid-more m w v f h hv laid = rw e (record { bound = low; each = each })
+    where
+      room : l * m + l ≤ wordBits
+      room = le-trans (le-of-eq (sym (mul-suc l m))) h
+
+      e : bitOr (w * 2 ^ l % 2 ^ wordBits) v ≡ w * 2 ^ l + v
+      e = ap (λ (n : ℕ). bitOr n v) (shl-exact (l * m) l wordBits (laid .bound) room) ∙ or-shifted w l v hv
+
+      low : w * 2 ^ l + v < 2 ^ (l * suc m)
+      low = rw (mul-suc, pow-add) (digits-lt (laid .bound) hv)
+
+      each : (i : ℕ) → i < suc m → counter l (w * 2 ^ l + v) i ≡ moved v f i
+      each zero h = first l w hv
+      each (suc i) h = later l w i hv ∙ laid .each i (omega arith)
+
+-- ---- a word whose counters are all at v
+all-moved : (v i : ℕ) → moved v (λ _. v) i ≡ v
+unfolding moved
+all-moved v zero = refl
+all-moved v (suc i) = refl
+
+pub laid-alike : (l m i w v : ℕ) → l * m ≤ wordBits → v < 2 ^ l → i < m → Laid l i w (λ _. v) → Laid l (suc i) (bitOr (w * 2 ^ l % 2 ^ wordBits) v) (λ _. v)
+laid-alike l m i w v fit hv h laid =
+    laid-same l (laid-more l i w v (λ _. v) (le-trans (mul-le-mul-left l h) fit) hv laid) (λ j _. all-moved v j)

@@ -1,0 +1,69 @@
+-- Laws of the width: there is a least number of low bits, `lowBits` is it, and no second one is. Assumes nothing.
+use mathlib.Core.Path.{_≡_, _∙_}
+use mathlib.Core.Logic.{_⊎_, inl, inr, ⊎-elim}
+use Prim.Native.Nat.{ℕ, zero, suc, _+_, _*_, _%_, _^_, _≤_, _<_}
+use native.Mathlib.Nat.{le-antisymm, lt-of-not-le, add-zero, zero-add, add-suc, suc-add}
+use native.Mathlib.Decide.{decLe}
+use native.Mathlib.Numerals.{add-one}
+use native.Mathlib.Omega.{arith}
+use lib.Dec.{lit<}
+use lib.Pow.{pow-mono, shl-exact}
+use borrow.Author.Tests.{lt-ltb, le-ltb}
+use Rattle.counters.specs.Width.{Least, leastFrom, lowBits}
+
+pub le-or-lt : (m n : ℕ) → (m ≤ n) ⊎ (n < m)
+le-or-lt m n = by-dec (decLe m n)
+  where
+    by-dec : Dec (m ≤ n) → (m ≤ n) ⊎ (n < m)
+    by-dec (yes h) = inl h
+    by-dec (no h) = inr (lt-of-not-le h)
+
+-- no second number is the least
+pub no-second-least : (g b b′ : ℕ) → Least g b → Least g b′ → b ≡ b′
+no-second-least g b b′ h h′ = le-antisymm (h .least b′ (h′ .room)) (h′ .least b (h .room))
+
+-- where 2^b is not above g, no power up to b is
+pub least-more : (g b k : ℕ) → 2 ^ b ≤ g → g < 2 ^ k → b + 1 ≤ k
+least-more g b k h l = ⊎-elim (λ (r : k ≤ b). absurd (omega (arith, pow-mono {i = k} {j = b} r))) (λ (r : b < k). omega arith) (le-or-lt k b)
+
+-- the search for it: nothing below b serves, and k steps more are enough
+from-least : (g k b : ℕ) → g < 2 ^ (b + k) → ((j : ℕ) → g < 2 ^ j → b ≤ j) → Least g (leastFrom g k b)
+unfolding leastFrom
+from-least g zero b h none = record { room = rw add-zero at h; least = none }
+from-least g (suc k) b h none =
+    ⊎-elim
+    (λ (l : 2 ^ b ≤ g). rw (le-ltb g (2 ^ b) l) (from-least g k (suc b) (rw suc-add (rw add-suc at h)) (λ j r. omega (arith, least-more g b j l r))))
+    (λ (l : g < 2 ^ b). rw (lt-ltb g (2 ^ b) l) (record { room = l; least = none }))
+    (le-or-lt (2 ^ b) g)
+
+below-power : (g : ℕ) → g < 2 ^ g
+below-power zero = lit< tt
+below-power (suc g) = omega (arith, below-power g)
+
+pub low-bits-least : (g : ℕ) → Least g (lowBits g)
+unfolding lowBits
+low-bits-least g = from-least g g 0 (rw zero-add (below-power g)) (λ j h. omega arith)
+
+pub is-low-bits : (g b : ℕ) → Least g b → b ≡ lowBits g
+is-low-bits g b h = no-second-least g b (lowBits g) h (low-bits-least g)
+
+-- where g fits the low bits, g + 1 fits the counter
+pub room-next : (g b : ℕ) → g < 2 ^ b → g + 1 < 2 ^ (b + 1)
+room-next g b h = rw (add-one b) (omega (arith, pow-mono {i = 0} {j = b} (omega arith)))
+
+-- the machine's `1 << b`
+pub one-shifted : (b : ℕ) → b ≤ 63 → (1 * 2 ^ b) % 2 ^ 64 ≡ 2 ^ b
+one-shifted b h = shl-exact 1 b 64 (lit< tt) (omega arith) ∙ omega arith
+
+-- ---- the plain search for the power: no number below b serves
+pub record Passed (g b : ℕ) : Type 0 where
+  pub least : (k : ℕ) → g < 2 ^ k → b ≤ k
+
+pub passed-start : (g : ℕ) → Passed g 0
+passed-start g = record { least = λ k h. omega arith }
+
+pub passed-step : (g b : ℕ) → b ≤ 63 → (1 * 2 ^ b) % 2 ^ 64 ≤ g → Passed g (b + 1)
+passed-step g b h t = record { least = λ k r. least-more g b k (rw (one-shifted b h) at t) r }
+
+pub passed-end : (g b : ℕ) → b ≤ 63 → g < (1 * 2 ^ b) % 2 ^ 64 → Passed g b → b ≡ lowBits g
+passed-end g b h t p = is-low-bits g b (record { room = rw (one-shifted b h) at t; least = p .least })

@@ -1,0 +1,5 @@
+-- Read in this order: it goes as document 01's paragraph 'packed' goes.
+pub mod Width
+pub mod Word
+pub mod Sums
+pub mod Sound
