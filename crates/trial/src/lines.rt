@@ -1,5 +1,4 @@
 // Lines on a page.
-use fit::Search;
 use libc::STDOUT_FILENO;
 
 // An untouched entry of a lent list shows by its number: this and its index.
@@ -15,23 +14,8 @@ pub(crate) fn mark(list: &mut [u32]) {
     }
 }
 
-// `NAME REFUSAL TOTAL TRIED` and the list's entries.
-pub(crate) fn searched(
-    page: &mut [u8],
-    at: usize,
-    name: &[u8],
-    found: Search,
-    list: &[u32],
-) -> usize {
-    let named = framed::put_text(page, at, name);
-    let refused = spaced(page, named, found.refusal as u64);
-    let counted = spaced(page, refused, found.total as u64);
-    let tried = spaced(page, counted, found.tried as u64);
-    let listed = entries(page, tried, list);
-    framed::put_text(page, listed, b"\n")
-}
-
-fn entries(page: &mut [u8], at: usize, list: &[u32]) -> usize {
+// The entries of a list, a gap before each.
+pub(crate) fn entries(page: &mut [u8], at: usize, list: &[u32]) -> usize {
     let mut end = at;
     let mut k = 0;
     while k < list.len() {

@@ -1,7 +1,8 @@
 // Reads framed cases from standard input and prints, for each, what every public function answers. tests/ makes the cases and knows the
 // answers; specs/Head.antt of the crate `framed` says what a frame is.
-mod case;
+mod asked;
 mod lines;
+mod searched;
 
 use libc::STDIN_FILENO;
 use libc::STDOUT_FILENO;
@@ -33,7 +34,7 @@ fn one_case(points: &mut [u8], recording: &mut [u8]) -> bool {
     if n < head.n {
         return cut_short();
     }
-    case::answer(
+    print_case(
         &points[..m],
         head.delta,
         head.gamma,
@@ -41,6 +42,14 @@ fn one_case(points: &mut [u8], recording: &mut [u8]) -> bool {
         head.room,
     );
     true
+}
+
+// Prints the ten lines of one case, with lent lists of `room` entries.
+fn print_case(points: &[u8], delta: u32, gamma: u32, recording: &[u8], room: usize) {
+    let mut page = io::large_buffer();
+    let at = searched::searches(&mut page, points, delta, gamma, recording, room);
+    let at = asked::questions(&mut page, at, points, delta, gamma);
+    lines::write(&page, at);
 }
 
 // Reads n bytes to the start of a buffer, if it has that many, and answers how many came.

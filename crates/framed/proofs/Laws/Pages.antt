@@ -1,12 +1,12 @@
 -- Laws of texts on a page. Assumes nothing.
-use Prim.Native.Nat.{ℕ, zero, suc, _+_, _-_, _^_, _≤_, _<_, min}
+use Prim.Native.Nat.{ℕ, zero, suc, _+_, _-_, _^_, _≤_, _<_}
 use mathlib.Core.Path.{_≡_, refl, sym, ap, _∙_}
 use native.Mathlib.Omega.{arith}
 use native.Mathlib.Numerals.{add-one}
 use native.Mathlib.Nat.{le-refl, le-trans, add-zero, add-suc}
 use mathlib.Core.List.{List}
 use lib.ListN.{length, getD, set, take, length-set}
-use lib.Seq.{paste, paste-zero, paste-suc, length-paste}
+use lib.Seq.{paste, paste-zero, paste-suc}
 use Rattle.io.specs.Digits.{digits, Fewest}
 use Rattle.framed.specs.Page.{fits, Put, Spelled}
 
@@ -66,3 +66,15 @@ not-fewer x j k few also less =
 -- a number has no second count of digits
 pub one-count : (x j k : ℕ) → Fewest 10 1 x j → Fewest 10 1 x k → j ≡ k
 one-count x j k few also = omega (arith, not-fewer x k j also few, not-fewer x j k few also)
+
+-- a text has no second page and no second end
+pub one-page : (page : List ℕ) (at : ℕ) (text : List ℕ) (end also : ℕ) (after other : List ℕ) → Put page at text end after → Put page at text also other
+    → (end ≡ also) × (after ≡ other)
+one-page page at text end also after other h k = (h .ends ∙ sym (k .ends), h .held ∙ sym (k .held))
+
+-- nor has a number
+pub one-spelling : (page : List ℕ) (at x end also : ℕ) (after other : List ℕ) → Spelled page at x end after → Spelled page at x also other
+    → (end ≡ also) × (after ≡ other)
+one-spelling page at x end also after other h k =
+    let same = one-count x (h .count) (k .count) (h .fewest) (k .fewest) in
+    one-page page at (digits 10 (k .count) x) end also after other (rw same at (h .put)) (k .put)

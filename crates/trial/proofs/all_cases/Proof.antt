@@ -1,13 +1,9 @@
 -- `trial::all_cases` is safe and ends: the count of turns falls. Assumes nothing.
-use Prim.Native.Nat.{_≤_, _-_}
 use mathlib.Core.Path.{_≡_}
 use lib.ListN.{length}
 use borrow.Author.Needs.{needs}
 use Rattle.trial.proofs.all_cases.Statement.{statement}
 use Rattle.trial.proofs.all_cases.Tie as tie
-use Rattle.trial.proofs.all_cases.Reads as reads
-use Rattle.trial.proofs.all_cases.Lts as lts
-use Rattle.trial.proofs.one_case.Reads as one-case-reads
 
 abbrev Inv-loop : tie.InvT-loop
 Inv-loop points₀ recording₀ left₀ points recording left = (length points ≡ length points₀) × (length recording ≡ length recording₀)

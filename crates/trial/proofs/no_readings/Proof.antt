@@ -1,6 +1,6 @@
 -- `trial::no_readings` meets its contract. Its list is a million long, so the law is named: a search would write it out.
 -- Assumes nothing.
-use mathlib.Core.Path.{_≡_, sym}
+use mathlib.Core.Path.{sym}
 use Prim.Native.Nat.{ℕ}
 use lib.ListN.{length-replicate}
 use Rattle.trial.proofs.no_readings.Statement.{statement}

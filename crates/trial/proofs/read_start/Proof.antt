@@ -1,6 +1,7 @@
+-- `trial::read_start` meets its contract: what was read into the start of a buffer counts bytes of the whole. Assumes nothing.
 use Prim.Native.Nat.{ℕ, _+_, _≤_}
 use native.Mathlib.Nat.{le-trans, le-add-right}
-use mathlib.Core.Path.{_≡_, sym}
+use mathlib.Core.Path.{sym}
 use mathlib.Core.List.{List, _++_}
 use lib.ListN.{length, length-append}
 use lib.Seq.{length-take-le}
@@ -8,9 +9,6 @@ use Rattle.io.specs.Counts.{Counts}
 use borrow.Author.Needs.{needs}
 use Rattle.trial.proofs.read_start.Statement.{statement}
 use Rattle.trial.proofs.read_start.Tie as tie
-use Rattle.trial.proofs.read_start.Reads as reads
-use Rattle.trial.proofs.read_start.Lts as lts
-use Rattle.io.proofs.read_full.Reads as read-full-reads
 
 -- what counts bytes of a list counts bytes of a longer one
 counts-more : (r : ℕ) (front rest : List ℕ) → Counts r front → Counts r (front ++ rest)
@@ -18,27 +16,21 @@ counts-more r front rest h =
     let inside : r ≤ length (front ++ rest) = rw (length-append front rest) (le-trans (h .0) (le-add-right _ _)) in
     (inside, sym (length-take-le r (front ++ rest) inside))
 
--- src/main.rt:46:9
 returns : tie.Need-returns
 returns c = search needs
 
--- src/main.rt:48:33
 slice-relend-prefix-read-full : tie.Need-slice-relend-prefix-read-full
 slice-relend-prefix-read-full c = search needs
 
--- src/main.rt:48:33
 slice-aggregate-read-full : tie.Need-slice-aggregate-read-full
 slice-aggregate-read-full c = sym (length-take-le _ _ (c .before .if1 .left))
 
--- src/main.rt:48:5
 read-full-requires : tie.Need-read-full-requires
 read-full-requires c κs = search needs
 
--- src/main.rt:42:1
 same-length : tie.Need-same-length
 same-length c = search needs
 
--- src/main.rt:42:1
 returns-2 : tie.Need-returns-2
 returns-2 c = counts-more _ _ _ (c .before .before .read-full .ensures)
 

@@ -1,45 +1,33 @@
+-- `framed::head::head_of` meets its contract: field by field. Assumes nothing.
 use Rattle.framed.specs.Head.{headOf}
 use borrow.Author.Needs.{needs}
 use Rattle.framed.proofs.head.head_of.Statement.{statement}
 use Rattle.framed.proofs.head.head_of.Tie as tie
-use Rattle.framed.proofs.head.head_of.Reads as reads
-use Rattle.framed.proofs.head.head_of.Lts as lts
-use Rattle.framed.proofs.head.four_at.Reads as four-at-reads
-use Rattle.framed.proofs.head.two_at.Reads as two-at-reads
 
--- src/head.rt:20:9
 four-at-requires : tie.Need-four-at-requires
 four-at-requires c κs = search needs
 
--- src/head.rt:21:9
 four-at-requires-2 : tie.Need-four-at-requires-2
 four-at-requires-2 c κs = search needs
 
--- src/head.rt:22:9
 two-at-requires : tie.Need-two-at-requires
 two-at-requires c κs = search needs
 
--- src/head.rt:23:9
 four-at-requires-3 : tie.Need-four-at-requires-3
 four-at-requires-3 c κs = search needs
 
--- src/head.rt:24:9
 two-at-requires-2 : tie.Need-two-at-requires-2
 two-at-requires-2 c κs = search needs
 
--- src/head.rt:28:12
 cast-t7 : tie.Need-cast-t7
 cast-t7 c = search needs
 
--- src/head.rt:29:12
 cast-t8 : tie.Need-cast-t8
 cast-t8 c = search needs
 
--- src/head.rt:30:15
 cast-t9 : tie.Need-cast-t9
 cast-t9 c = search needs
 
--- src/head.rt:17:1
 returns : tie.Need-returns
 unfolding headOf
 returns c = λ i.

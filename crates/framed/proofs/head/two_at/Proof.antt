@@ -1,33 +1,25 @@
+-- `framed::head::two_at` meets its contract: one byte and one byte make two. Assumes nothing.
 use native.Mathlib.Omega.{arith}
 use Rattle.framed.proofs.Laws.Heads.{two-bytes}
 use borrow.Author.Needs.{needs}
 use Rattle.framed.proofs.head.two_at.Statement.{statement}
 use Rattle.framed.proofs.head.two_at.Tie as tie
-use Rattle.framed.proofs.head.two_at.Reads as reads
-use Rattle.framed.proofs.head.two_at.Lts as lts
-use Rattle.framed.proofs.head.byte_at.Reads as byte-at-reads
 
--- src/head.rt:45:5
 byte-at-requires : tie.Need-byte-at-requires
 byte-at-requires c κs = search needs
 
--- src/head.rt:45:5
 mul-result : tie.Need-mul-result
 mul-result c = search needs
 
--- src/head.rt:45:49
 add-byte-at : tie.Need-add-byte-at
 add-byte-at c = search needs
 
--- src/head.rt:45:34
 byte-at-requires-2 : tie.Need-byte-at-requires-2
 byte-at-requires-2 c κs = search needs
 
--- src/head.rt:45:5
 add-result : tie.Need-add-result
 add-result c = search needs
 
--- src/head.rt:41:1
 returns : tie.Need-returns
 returns c = (two-bytes _ _ _ _ (c .before .byte-at .ensures .0) (c .byte-at2 .ensures .0), omega arith)
 

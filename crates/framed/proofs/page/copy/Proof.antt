@@ -1,12 +1,10 @@
 -- `framed::page::copy` meets its contract: after i bytes the first i of the text stand on the page. Assumes nothing.
-use Prim.Native.Nat.{ℕ, _≤_, _-_}
-use mathlib.Core.Path.{_≡_, sym}
+use Prim.Native.Nat.{_≤_, _-_}
+use mathlib.Core.Path.{_≡_}
 use native.Mathlib.Omega.{arith}
 use Rattle.framed.proofs.Laws.Pages.{Copied, none-copied, one-more-copied}
 use Rattle.framed.proofs.page.copy.Statement.{statement}
 use Rattle.framed.proofs.page.copy.Tie as tie
-use Rattle.framed.proofs.page.copy.Reads as reads
-use Rattle.framed.proofs.page.copy.Lts as lts
 
 abbrev Inv-loop : tie.InvT-loop
 Inv-loop page₀ at text n i₀ page i = (i ≤ n) × Copied page₀ at text i page

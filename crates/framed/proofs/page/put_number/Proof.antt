@@ -1,33 +1,24 @@
+-- `framed::page::put_number` meets its contract: the digits that `io::decimal` makes are put as a text. Assumes nothing.
 use Rattle.framed.proofs.Laws.Pages.{number-put}
 use borrow.Author.Needs.{needs}
 use Rattle.framed.proofs.page.put_number.Statement.{statement}
 use Rattle.framed.proofs.page.put_number.Tie as tie
-use Rattle.framed.proofs.page.put_number.Reads as reads
-use Rattle.framed.proofs.page.put_number.Lts as lts
-use Rattle.framed.proofs.page.put_text.Reads as put-text-reads
-use Rattle.io.proofs.decimal.Reads as decimal-reads
 
--- src/page.rt:25:9
 decimal-requires : tie.Need-decimal-requires
 decimal-requires c κs = search needs
 
--- src/page.rt:26:24
 array-share-prefix-digits : tie.Need-array-share-prefix-digits
 array-share-prefix-digits c = search needs
 
--- src/page.rt:26:24
 slice-aggregate-put-text : tie.Need-slice-aggregate-put-text
 slice-aggregate-put-text c = search needs
 
--- src/page.rt:26:5
 put-text-requires : tie.Need-put-text-requires
 put-text-requires c κs = search needs
 
--- src/page.rt:21:1
 same-length : tie.Need-same-length
 same-length c = search needs
 
--- src/page.rt:21:1
 returns : tie.Need-returns
 returns c =
     let done = c .before .before in

@@ -5,10 +5,6 @@ use lib.ListN.{length}
 use borrow.Author.Needs.{needs}
 use Rattle.trial.proofs.lines.entries.Statement.{statement}
 use Rattle.trial.proofs.lines.entries.Tie as tie
-use Rattle.trial.proofs.lines.entries.Reads as reads
-use Rattle.trial.proofs.lines.entries.Lts as lts
-use Rattle.trial.proofs.lines.spaced.Reads as spaced-reads
-use Rattle.trial.proofs.lines.wide.Reads as wide-reads
 
 abbrev Inv-loop : tie.InvT-loop
 Inv-loop page₀ at list end₀ k₀ page end k = (k ≤ length list) × (length page ≡ length page₀)

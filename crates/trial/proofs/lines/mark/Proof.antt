@@ -6,9 +6,6 @@ use native.Mathlib.Omega.{arith}
 use borrow.Author.Needs.{needs}
 use Rattle.trial.proofs.lines.mark.Statement.{statement}
 use Rattle.trial.proofs.lines.mark.Tie as tie
-use Rattle.trial.proofs.lines.mark.Reads as reads
-use Rattle.trial.proofs.lines.mark.Lts as lts
-use Rattle.std.proofs.num.wrapping_add_u32.Reads as wrapping-add-u32-reads
 
 abbrev Inv-loop : tie.InvT-loop
 Inv-loop list₀ next₀ k₀ list next k = (k ≤ length list₀) × (length list ≡ length list₀)

@@ -1,25 +1,19 @@
+-- `trial::lines::write` is safe: it writes no more than the page. Assumes nothing.
 use mathlib.Core.Path.{sym}
 use lib.Seq.{length-take-le}
 use borrow.Author.Needs.{needs}
 use Rattle.trial.proofs.lines.write.Statement.{statement}
 use Rattle.trial.proofs.lines.write.Tie as tie
-use Rattle.trial.proofs.lines.write.Reads as reads
-use Rattle.trial.proofs.lines.write.Lts as lts
-use Rattle.io.proofs.write_all.Reads as write-all-reads
 
--- src/lines.rt:50:38
 slice-aggregate-write-all : tie.Need-slice-aggregate-write-all
 slice-aggregate-write-all c = sym (length-take-le _ _ (c .before .if1 .taken))
 
--- src/lines.rt:50:9
 write-all-requires : tie.Need-write-all-requires
 write-all-requires c κs = search needs
 
--- src/lines.rt:48:1
 returns : tie.Need-returns
 returns c = search needs
 
--- src/lines.rt:48:1
 returns-2 : tie.Need-returns-2
 returns-2 c = search needs
 
