@@ -49,7 +49,10 @@ const ANY: [u8; 256] = {
 /// Both ends of the readings, where differences cannot go either way.
 const ENDS: [u8; 8] = [0, 1, 2, 3, 252, 253, 254, 255];
 
-const KINDS: [fn(&mut Draw) -> (Profile, Vec<u8>); 14] = [
+/// A profile and a recording; the length of the lent list is drawn afterwards.
+type Made = (Profile, Vec<u8>);
+
+const KINDS: [fn(&mut Draw) -> Made; 14] = [
     few_readings,
     ends_of_the_readings,
     sums_about_gamma,
@@ -70,9 +73,12 @@ const KINDS: [fn(&mut Draw) -> (Profile, Vec<u8>); 14] = [
 const LONG_EVERY: usize = 400;
 
 pub fn cases(count: usize, seed: u64) -> impl Iterator<Item = Case> {
+    let sheet = sheet();
     let mut draw = Draw(seed);
     (0..count).map(move |number| {
-        let (profile, recording) = if number % LONG_EVERY == LONG_EVERY - 1 {
+        let (profile, recording) = if number < sheet.len() {
+            sheet[number].clone()
+        } else if number % LONG_EVERY == LONG_EVERY - 1 {
             long_recording(&mut draw, number / LONG_EVERY)
         } else {
             KINDS[number % KINDS.len()](&mut draw)
@@ -80,6 +86,26 @@ pub fn cases(count: usize, seed: u64) -> impl Iterator<Item = Case> {
         let room = room(&mut draw, &profile, &recording);
         Case { profile, recording, room }
     })
+}
+
+/// The sheet of examples, E1 to E8, E10, E12 and E13; E9 and E11 ask nothing further of a program. They come first.
+fn sheet() -> Vec<Made> {
+    let p = || vec![40, 42, 44];
+    let l = || vec![40, 42, 44, 41, 43, 45, 39, 42, 43, 70, 41, 41, 43, 40];
+    vec![
+        (profile(p(), 1, 2), vec![]),
+        (profile(vec![1], 254, 254), vec![255]),
+        (profile(vec![1], 253, 254), vec![255]),
+        (profile(p(), 1, 2), l()),
+        (profile(p(), 1, 3), l()),
+        (profile(p(), 1, 1), l()),
+        (profile(p(), 9, 2), l()),
+        (profile(vec![7, 7], 0, 0), vec![7, 7, 7]),
+        (profile(vec![9; 16], 1, 7), vec![9; 20]),
+        (profile(vec![9; 16], 1, 8), vec![9; 20]),
+        (profile(vec![6, 5], 1, 2), vec![6, 7, 5]),
+        (profile(vec![255, 254], 1, 2), vec![255, 253, 254]),
+    ]
 }
 
 /// A list with no room, too little room, just enough, more than enough.
@@ -96,7 +122,7 @@ fn profile(points: Vec<u8>, delta: u32, gamma: u32) -> Profile {
 }
 
 /// A few different readings close to each other: many places, and many that only just fail.
-fn few_readings(draw: &mut Draw) -> (Profile, Vec<u8>) {
+fn few_readings(draw: &mut Draw) -> Made {
     let (low, many) = (draw.number(0, 240), draw.number(2, 6));
     let step = draw.one_of(&[1, 1, 1, 2, 3]);
     let alphabet: Vec<u8> = (0..many).map(|k| (low + k * step).min(255) as u8).collect();
@@ -107,7 +133,7 @@ fn few_readings(draw: &mut Draw) -> (Profile, Vec<u8>) {
     (profile(draw.readings(m, &alphabet), delta, gamma), draw.readings(n, &alphabet))
 }
 
-fn ends_of_the_readings(draw: &mut Draw) -> (Profile, Vec<u8>) {
+fn ends_of_the_readings(draw: &mut Draw) -> Made {
     let alphabet = draw.one_of(&[&ENDS[..], &ENDS[..4], &ENDS[4..], &[0, 255], &[253, 255]]);
     let m = draw.length(1, 8);
     let n = draw.length(0, 50);
@@ -136,7 +162,7 @@ fn window_of_sum(draw: &mut Draw, points: &[u8], delta: u32, sum: u32) -> Vec<u8
 }
 
 /// Windows whose sums are gamma - 1, gamma and gamma + 1, or that have one difference of delta + 1; often one at the very end.
-fn sums_about_gamma(draw: &mut Draw) -> (Profile, Vec<u8>) {
+fn sums_about_gamma(draw: &mut Draw) -> Made {
     let m = draw.length(1, 12);
     let delta = draw.number(1, 9);
     let gamma = draw.number(1, delta * m as u32);
@@ -162,7 +188,7 @@ fn sums_about_gamma(draw: &mut Draw) -> (Profile, Vec<u8>) {
     (profile(points, delta, gamma), recording)
 }
 
-fn one_point(draw: &mut Draw) -> (Profile, Vec<u8>) {
+fn one_point(draw: &mut Draw) -> Made {
     let alphabet = draw.one_of(&[&ANY[..], &ANY[..4], &ANY[250..], &ENDS[..]]);
     let delta = draw.one_of(&[0, 1, 2, 100, 254, 255]);
     let gamma = draw.one_of(&[0, 1, 2, delta, delta + 1, 254, 255, 16_320]);
@@ -170,7 +196,7 @@ fn one_point(draw: &mut Draw) -> (Profile, Vec<u8>) {
     (profile(draw.readings(1, alphabet), delta, gamma), draw.readings(n, alphabet))
 }
 
-fn sixty_four_points(draw: &mut Draw) -> (Profile, Vec<u8>) {
+fn sixty_four_points(draw: &mut Draw) -> Made {
     let alphabet = draw.one_of(&[&ANY[..], &ANY[..2], &ANY[250..], &ANY[40..44], &[7]]);
     let points = draw.readings(64, alphabet);
     let delta = draw.one_of(&[0, 0, 1, 3, 60, 255]);
@@ -189,7 +215,7 @@ fn sixty_four_points(draw: &mut Draw) -> (Profile, Vec<u8>) {
 }
 
 /// An empty recording, one that is too short by one, one that is as long as the profile.
-fn no_room_for_a_window(draw: &mut Draw) -> (Profile, Vec<u8>) {
+fn no_room_for_a_window(draw: &mut Draw) -> Made {
     let m = draw.one_of(&[1, 2, 3, 5, 16, 63, 64]);
     let n = draw.one_of(&[0, 0, m - 1, m - 1, m, m, m + 1, m / 2]);
     let delta = draw.number(0, 3);
@@ -197,7 +223,7 @@ fn no_room_for_a_window(draw: &mut Draw) -> (Profile, Vec<u8>) {
     (profile(draw.readings(m, &ANY[30..34]), delta, gamma), draw.readings(n, &ANY[30..34]))
 }
 
-fn constant_recording(draw: &mut Draw) -> (Profile, Vec<u8>) {
+fn constant_recording(draw: &mut Draw) -> Made {
     let reading = draw.one_of(&[0, 1, 77, 128, 254, 255]);
     let m = draw.one_of(&[1, 2, 3, 7, 8, 20]);
     let close: Vec<u8> = (reading.max(2) - 2..=reading.min(253) + 2).collect();
@@ -209,7 +235,7 @@ fn constant_recording(draw: &mut Draw) -> (Profile, Vec<u8>) {
 }
 
 /// All counters together take 64 bits exactly, or a little less, or a little more.
-fn packed_at_its_limit(draw: &mut Draw) -> (Profile, Vec<u8>) {
+fn packed_at_its_limit(draw: &mut Draw) -> Made {
     let b = draw.number(0, 10);
     let least = 64 / (b as usize + 1);
     let m = (least + draw.length(0, 1)).min(64);
@@ -229,7 +255,7 @@ fn packed_at_its_limit(draw: &mut Draw) -> (Profile, Vec<u8>) {
     (profile(points, delta, g), recording)
 }
 
-fn tolerances_of_any_size(draw: &mut Draw) -> (Profile, Vec<u8>) {
+fn tolerances_of_any_size(draw: &mut Draw) -> Made {
     let m = draw.length(1, 30);
     let delta = draw.number(0, 255);
     let most = draw.one_of(&[delta, m as u32 * delta, 16_320]);
@@ -239,7 +265,7 @@ fn tolerances_of_any_size(draw: &mut Draw) -> (Profile, Vec<u8>) {
 }
 
 /// As a stocking is: each reading close to the one before it; the profile is a part of it, changed a little.
-fn smooth_recording(draw: &mut Draw) -> (Profile, Vec<u8>) {
+fn smooth_recording(draw: &mut Draw) -> Made {
     let n = draw.length(20, 100);
     let mut reading = draw.number(0, 255) as i64;
     let mut recording = Vec::new();
@@ -257,7 +283,7 @@ fn smooth_recording(draw: &mut Draw) -> (Profile, Vec<u8>) {
 }
 
 /// A profile that is close to a shift of itself, so that full and mismatch jumps are of every size; the recording repeats too.
-fn repeating_profile(draw: &mut Draw) -> (Profile, Vec<u8>) {
+fn repeating_profile(draw: &mut Draw) -> Made {
     let low = draw.one_of(&[0, 0, 90, 250]);
     let alphabet: Vec<u8> = (low..=low + 5).collect();
     let period = draw.length(1, 6);
@@ -281,7 +307,7 @@ fn repeating_profile(draw: &mut Draw) -> (Profile, Vec<u8>) {
 }
 
 /// delta 0, gamma 0, or both; and the two far apart, so that d and g differ from delta and gamma.
-fn no_tolerance(draw: &mut Draw) -> (Profile, Vec<u8>) {
+fn no_tolerance(draw: &mut Draw) -> Made {
     let (delta, gamma) = draw.one_of(&[(0, 0), (0, 0), (0, 50), (5, 0), (255, 1), (255, 2), (1, 16_320), (0, 16_320), (255, 0)]);
     let alphabet = draw.one_of(&[&ANY[7..9], &ANY[..2], &ANY[254..], &ANY[100..104]]);
     let m = draw.length(1, 7);
@@ -290,12 +316,12 @@ fn no_tolerance(draw: &mut Draw) -> (Profile, Vec<u8>) {
 }
 
 const BAD_M: [usize; 6] = [0, 0, 65, 66, 128, 300];
-const BAD_DELTA: [u32; 4] = [256, 257, 70_000, u32::MAX];
-const BAD_GAMMA: [u32; 4] = [16_321, 16_322, 1 << 31, u32::MAX];
+const BAD_DELTA: [u32; 5] = [256, 256, 257, 70_000, u32::MAX];
+const BAD_GAMMA: [u32; 5] = [16_321, 16_321, 16_322, 1 << 31, u32::MAX];
 
 /// Refusals 1, 2 and 4, alone and together, and the values next to them that are accepted.
-fn refused(draw: &mut Draw) -> (Profile, Vec<u8>) {
-    let m = if draw.from(0, 1) == 0 { draw.one_of(&BAD_M) } else { draw.one_of(&[1, 3, 64]) };
+fn refused(draw: &mut Draw) -> Made {
+    let m = if draw.from(0, 2) == 0 { draw.one_of(&BAD_M) } else { draw.one_of(&[1, 3, 64]) };
     let (delta, gamma) = match draw.from(0, 4) {
         0 => (draw.one_of(&BAD_DELTA), draw.number(0, 16_320)),
         1 => (draw.number(0, 255), draw.one_of(&BAD_GAMMA)),
@@ -308,7 +334,7 @@ fn refused(draw: &mut Draw) -> (Profile, Vec<u8>) {
 }
 
 /// A recording that is too long by one, alone and with each other refusal, and one that is not.
-fn long_recording(draw: &mut Draw, turn: usize) -> (Profile, Vec<u8>) {
+fn long_recording(draw: &mut Draw, turn: usize) -> Made {
     let (m, delta, gamma, n) = [
         (3, 1, 2, 1_000_001),
         (9, 3, 10, 1_000_000),

@@ -78,9 +78,11 @@ fn count_differences(frames_path: &str, output_path: &str) -> io::Result<bool> {
             differences += 1;
         }
     }
-    let behind = lines.len() as i64 - (cases.len() * frames::LINES) as i64 - 1;
-    if behind > 0 || (behind == 0 && lines.last() != Some(&"")) {
+    if lines.len() > cases.len() * frames::LINES + 1 {
         println!("the output goes on behind the last case");
+        differences += 1;
+    } else if differences == 0 && lines.last() != Some(&"") {
+        println!("the last line does not end");
         differences += 1;
     }
     println!("{} cases, {differences} differences", cases.len());
