@@ -1,0 +1,5 @@
+pub mod Orders
+pub mod Writings
+pub mod Orderings
+pub mod Uniques
+pub mod Seeing

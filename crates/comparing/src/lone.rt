@@ -1,0 +1,70 @@
+// The lone jumps, which give the order in which points are compared.
+ghost use mathlib.Core.Path.{_≡_};
+ghost use Prim.Native.Nat.{_+_, _≤_, _<_, min};
+ghost use lib.ListN.{length};
+ghost use Rattle.fit.specs.Reading.{lowest, highest};
+ghost use Rattle.fit.specs.Refusal.{maxPoints, maxDelta};
+ghost use Rattle.jumps.specs.Jumps.{lonely, loneAt, loneJump};
+ghost use Rattle.tables.specs.Holding.{Holds, Usable};
+
+// The greatest reading that is near point p.
+fn most_near(p: u8, d: u32) -> u8
+    requires { ⌜ d ≤ maxDelta ⌝ }
+    ensures { λ r. ⌜ r ≡ min highest (p + d) ⌝ }
+{
+    let v = p as u32 + d;
+    if v < 255 { v as u8 } else { 255 }
+}
+
+// Whether some reading is near a and not near b: the least and the greatest that are near a decide.
+fn is_lonely(d: u32, b: u8, a: u8) -> bool
+    requires { ⌜ (d ≤ maxDelta) × (lowest ≤ a) ⌝ }
+    ensures { λ r. ⌜ r ≡ lonely d b a ⌝ }
+{
+    if fit::is_near(d, b, fit::least_near(a, d)) {
+        !fit::is_near(d, b, most_near(a, d))
+    } else {
+        true
+    }
+}
+
+// The lone condition of point p at k.
+pub(crate) fn lone_at(points: &[u8], d: u32, p: usize, k: usize) -> bool
+    requires { ⌜ Usable d (now points) × (p < length (now points)) ⌝ }
+    ensures { λ r. ⌜ r ≡ loneAt d (now (points .entry)) p k ⌝ }
+{
+    if p < k {
+        return true;
+    }
+    is_lonely(d, points[p], points[p - k])
+}
+
+// The lone jump of point p.
+fn lone_jump(points: &[u8], d: u32, p: usize) -> usize
+    requires { ⌜ Usable d (now points) × (p < length (now points)) ⌝ }
+    ensures { λ r. ⌜ (r ≡ loneJump d (now (points .entry)) p) × (r ≤ maxPoints) ⌝ }
+{
+    let mut k = 1;
+    while k <= p {
+        if lone_at(points, d, p, k) {
+            return k;
+        }
+        k += 1;
+    }
+    k
+}
+
+// The lone jumps of all points.
+pub(crate) fn lone_table(points: &[u8], d: u32) -> [u8; 64]
+    requires { ⌜ Usable d (now points) ⌝ }
+    ensures { λ r. ⌜ Holds (loneJump d (now (points .entry))) (length (now (points .entry))) maxPoints r ⌝ }
+{
+    let mut table = [0u8; 64];
+    let mut p = 0;
+    while p < points.len() {
+        let jump = lone_jump(points, d, p);
+        table[p] = jump as u8;
+        p += 1;
+    }
+    table
+}

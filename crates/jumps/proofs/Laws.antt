@@ -1,0 +1,11 @@
+pub mod Leasts
+pub mod Nears
+pub mod Conditions
+pub mod Frame
+pub mod Single
+pub mod Several
+pub mod OneReading
+pub mod Demands
+pub mod Sizes
+pub mod Keeps
+pub mod OverSpans

@@ -1,0 +1,55 @@
+-- Demand 3 for the two rules that look at one reading, for points of any kind. Assumes nothing.
+use Prim.Native.Nat.{ℕ, suc, _+_, _-_, _≤_, _<_}
+use mathlib.Core.Path.{_≡_, refl, subst}
+use mathlib.Core.Bool.{Bool, true}
+use mathlib.Core.List.{List}
+use native.Mathlib.Omega.{arith}
+use Rattle.fit.specs.Reading.{highest}
+use Rattle.fit.specs.Rule.{Rule, nearBy}
+use Rattle.jumps.specs.Jumps.{lastJump, nextJump}
+use Rattle.jumps.specs.Demand.{Passed, LastIs, NextIs, NotTooLong, Reaches}
+use Rattle.jumps.proofs.Laws.Leasts.{greatest-same}
+use Rattle.jumps.proofs.Laws.Frame.{Home, Some, Meet, PlaceBy}
+use Rattle.jumps.proofs.Laws.Single.{single-passes, single-short}
+
+-- rules that find the same readings near have the same jumps
+module _ (near near′ : ℕ → ℕ → Bool) (m a : ℕ) (same : (i : ℕ) → i < m → near i a ≡ near′ i a) where
+  pub last-same : lastJump near m a ≡ lastJump near′ m a
+  last-same = rw (greatest-same (λ i. near i a) (λ i. near′ i a) m same)
+
+  pub next-same : nextJump near m a ≡ nextJump near′ m a
+  next-same = rw (greatest-same (λ i. near i a) (λ i. near′ i a) m same)
+
+module _ (r : Rule) (m gamma : ℕ) (some : 1 ≤ m) (a : ℕ) where
+  stands : (i c : ℕ) → i < m → c ≡ a → nearBy r gamma i c ≡ true → nearBy r gamma i a ≡ true
+  stands i c l e n = subst (λ (c : ℕ). nearBy r gamma i c ≡ true) e n
+
+  -- whatever values the recording has
+  pub last-by-passes : (y : List ℕ) (s t : ℕ) → LastIs m a y s → Passed 0 (lastJump (nearBy r gamma) m a) s t → PlaceBy r m gamma y t → ⊥
+  last-by-passes =
+      single-passes r m gamma (m - 1) m m 0 m (λ c. c ≡ a) (λ i. nearBy r gamma i a) (omega arith) (omega arith) (omega arith) (omega arith) stands
+
+  pub next-by-passes : (y : List ℕ) (s t : ℕ) → NextIs m a y s → Passed 1 (nextJump (nearBy r gamma) m a) s t → PlaceBy r m gamma y t → ⊥
+  next-by-passes =
+      single-passes r m gamma m (suc m) m 1 (m + 1) (λ c. c ≡ a) (λ i. nearBy r gamma i a) (omega arith) (omega arith) (omega arith) (omega arith) stands
+
+  pub last-by-not-too-long : NotTooLong (PlaceBy r m gamma) (LastIs m a) 0 (lastJump (nearBy r gamma) m a)
+  last-by-not-too-long y s t rd = last-by-passes y s t
+
+  pub next-by-not-too-long : NotTooLong (PlaceBy r m gamma) (NextIs m a) 1 (nextJump (nearBy r gamma) m a)
+  next-by-not-too-long y s t rd = next-by-passes y s t
+
+  module _ (h : Home r m) (byte : a ≤ highest) where
+    meets : (i : ℕ) → i < m → nearBy r gamma i a ≡ true → Meet r gamma i (λ c. c ≡ a)
+    meets i l e = record { c = a; byte = byte; seen = refl; near = e }
+
+    itself : Some (λ c. c ≡ a)
+    itself = record { c = a; byte = byte; seen = refl }
+
+    pub last-by-reaches : Reaches (PlaceBy r m gamma) (LastIs m a) (lastJump (nearBy r gamma) m a)
+    last-by-reaches =
+        single-short r m gamma (m - 1) m m 0 m (λ c. c ≡ a) (λ i. nearBy r gamma i a) (omega arith) (omega arith) (omega arith) (omega arith) h meets itself
+
+    pub next-by-reaches : Reaches (PlaceBy r m gamma) (NextIs m a) (nextJump (nearBy r gamma) m a)
+    next-by-reaches =
+        single-short r m gamma m (suc m) m 1 (m + 1) (λ c. c ≡ a) (λ i. nearBy r gamma i a) (omega arith) (omega arith) (omega arith) (omega arith) h meets itself
