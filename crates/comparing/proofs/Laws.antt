@@ -1,3 +1,4 @@
+pub mod Leadings
 pub mod Orders
 pub mod Writings
 pub mod Orderings

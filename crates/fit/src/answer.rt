@@ -6,6 +6,7 @@ ghost use Rattle.fit.specs.Refusal.{refusalOf};
 ghost use Rattle.fit.specs.Answer.{lent, begun, Noted};
 
 // The number of the refusal and counts of 0; or 0, the total of places and the count of windows tried.
+#[repr(C)]
 pub struct Search {
     pub refusal: u32,
     pub total: usize,

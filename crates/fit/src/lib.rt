@@ -15,6 +15,7 @@ pub use limits::Profile;
 pub use limits::Tolerance;
 pub use limits::asked;
 pub use limits::refusal;
+pub use limits::smaller;
 pub use reading::are_alike;
 pub use reading::differ;
 pub use reading::is_near;

@@ -1,6 +1,6 @@
 // The checked types of a call's input, and the number by which bad input is refused.
 ghost use mathlib.Core.Path.{_≡_};
-ghost use Prim.Native.Nat.{_≤_};
+ghost use Prim.Native.Nat.{_≤_, min};
 ghost use lib.ListN.{length, replicate};
 ghost use Rattle.fit.specs.Listing.{overlay};
 ghost use Rattle.fit.specs.Refusal.{maxPoints, maxDelta, maxGamma, maxReadings, askedOf, refusalOf};
@@ -132,4 +132,11 @@ pub fn refusal(points: &[u8], delta: u32, gamma: u32, recording: &[u8]) -> u32
         return 3;
     }
     0
+}
+
+// The smaller of two numbers: d of delta and gamma, and g of gamma and m times d.
+pub fn smaller(a: u32, b: u32) -> u32
+    ensures { λ r. ⌜ r ≡ min a b ⌝ }
+{
+    if a <= b { a } else { b }
 }

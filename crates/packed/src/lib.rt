@@ -4,18 +4,11 @@ mod scan;
 mod table;
 
 ghost use mathlib.Core.Path.{_≡_};
-ghost use Prim.Native.Nat.{min};
 ghost use Rattle.fit.specs.Answer.{lent};
 ghost use Rattle.packed.specs.Fourth.{PackedAnswers};
 
 // The bits of a word.
 const WORD_BITS: u32 = 64;
-
-fn lesser(a: u32, b: u32) -> u32
-    ensures { λ r. ⌜ r ≡ min a b ⌝ }
-{
-    if a < b { a } else { b }
-}
 
 // All places of the profile in the recording.
 pub fn search(
@@ -34,8 +27,8 @@ pub fn search(
         return begun;
     }
     let m = points.len() as u32;
-    let d = lesser(delta, gamma);
-    let g = lesser(gamma, m * d);
+    let d = fit::smaller(delta, gamma);
+    let g = fit::smaller(gamma, m * d);
     let b = counters::low_bits(g);
     if WORD_BITS < m * (b + 1) {
         begun.refusal = 4;

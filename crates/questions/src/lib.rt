@@ -8,6 +8,7 @@ ghost use Rattle.jumps.specs.Jumps.{lastJump, nextJump, afterJump, mismatchJump
 ghost use Rattle.questions.specs.Asking.{jumpAnswer, mismatchAskedOf};
 
 // The number of the refusal and a jump of 0; or 0 and the jump.
+#[repr(C)]
 pub struct Jump {
     pub refusal: u32,
     pub jump: usize,
@@ -73,7 +74,7 @@ pub fn after_check(points: &[u8], delta: u32, gamma: u32) -> Jump
     if number != 0 {
         return answer(number, 0);
     }
-    let d = tables::smaller(delta, gamma);
+    let d = fit::smaller(delta, gamma);
     let jump = tables::after_jump(points, d);
     answer(0, jump)
 }
@@ -86,7 +87,7 @@ pub fn full(points: &[u8], delta: u32, gamma: u32) -> Jump
     if number != 0 {
         return answer(number, 0);
     }
-    let d = tables::smaller(delta, gamma);
+    let d = fit::smaller(delta, gamma);
     let jump = tables::full_jump(points, d);
     answer(0, jump)
 }
@@ -100,7 +101,7 @@ pub fn mismatch(points: &[u8], delta: u32, gamma: u32, p: usize) -> Jump
     if number != 0 {
         return answer(number, 0);
     }
-    let d = tables::smaller(delta, gamma);
+    let d = fit::smaller(delta, gamma);
     let made = comparing::compared_of(points, d);
     let jump = size(made.jumps[p - 1]);
     answer(0, jump)

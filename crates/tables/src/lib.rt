@@ -9,4 +9,3 @@ pub use single::last_jump;
 pub use single::last_table;
 pub use single::next_jump;
 pub use single::next_table;
-pub use single::smaller;

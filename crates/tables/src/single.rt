@@ -1,6 +1,6 @@
 // The rules that look at one reading, or at the last point.
 ghost use mathlib.Core.Path.{_≡_};
-ghost use Prim.Native.Nat.{_+_, _-_, _*_, _≤_, min};
+ghost use Prim.Native.Nat.{_+_, _-_, _*_, _≤_};
 ghost use lib.ListN.{length, getD};
 ghost use Rattle.fit.specs.Reading.{alike};
 ghost use Rattle.fit.specs.Rule.{nearBy};
@@ -9,13 +9,6 @@ ghost use Rattle.fit.specs.Spans.{ruleIn};
 ghost use Rattle.jumps.specs.Least.{greatest};
 ghost use Rattle.jumps.specs.Jumps.{lastJump, nextJump, afterJump};
 ghost use Rattle.tables.specs.Holding.{Holds, Usable};
-
-// The smaller of the two tolerances.
-pub fn smaller(delta: u32, gamma: u32) -> u32
-    ensures { λ r. ⌜ r ≡ min delta gamma ⌝ }
-{
-    if delta <= gamma { delta } else { gamma }
-}
 
 // Document 01's number of the greatest of m points at which reading a may stand; 0 if there is none.
 fn greatest_near(spans: &[u16], m: usize, gamma: u32, a: u8) -> usize

@@ -11,8 +11,8 @@ use lib.Seq.{take-suc, length-take-le, getD-append-add}
 use lib.Dec.{leb, eqb}
 use borrow.Author.Tests.{leb-true, le-leb, eqb-true, eq-eqb}
 use Rattle.fit.specs.Reading.{lowest, diff, near}
-use Rattle.fit.specs.Rule.{SameRule, nearBy}
-use Rattle.fit.specs.Place.{fitOf, ruleOf, dOf}
+use Rattle.fit.specs.Rule.{SameRule, isPlaceBy, nearBy}
+use Rattle.fit.specs.Place.{fitOf, ruleOf, Place, dOf}
 use Rattle.fit.specs.Listing.{overlay}
 use Rattle.fit.specs.Refusal.{maxPoints, maxReadings, Accepted}
 use Rattle.fit.specs.Spans.{spanFits, ruleIn, spanOf, spansFor, spansOf, Ready}
@@ -20,8 +20,8 @@ use Rattle.fit.specs.Answer.{soughtBy, Lent, Answer, Answers}
 use Rattle.fit.specs.declared.answer.Search.{Search}
 use Rattle.fit.proofs.Laws.Bools.{and-left, and-right, and-both, same-test}
 use Rattle.fit.proofs.Laws.Readings.{near-le, near-lowest, le-near}
-use Rattle.fit.proofs.Laws.Rules.{same-near}
-use Rattle.fit.proofs.Laws.Places.{near-derived}
+use Rattle.fit.proofs.Laws.Rules.{same-place, same-near}
+use Rattle.fit.proofs.Laws.Places.{by-place, near-derived}
 use Rattle.fit.proofs.Laws.Answers.{same-answer}
 use Rattle.fit.proofs.Laws.Listings.{overlay-none, overlay-more, length-overlay, overlay-at}
 
@@ -117,25 +117,33 @@ same-rule delta x few = record {
   same-cost = λ i a l e. rw (laid-at delta x i 2 few l (omega arith), laid-at delta x i 3 few l (omega arith));
 }
 
--- ---- a search that is accepted and compiled: it is ready to go over the spans, and what it answers there is its answer
-module _ (delta gamma : ℕ) (x y spans : List ℕ) (made : spans ≡ spansOf delta x) (ok : Accepted delta gamma x y) where
-  pub ready : Ready spans (length x) gamma (length y)
-  ready =
-      let long = ap length made ∙ length-overlay (spansFor delta x) (replicate (4 * maxPoints) 0) in
-      record {
-        some = ok .asked .some;
-        few = ok .asked .few;
-        full = omega (arith, ok .asked .few, long, length-replicate {A = ℕ} (4 * maxPoints) 0);
-        gamma-small = ok .asked .gamma-small;
-        short = ok .short;
-      }
+-- ---- a profile that is compiled: it has its four numbers a point, and their rule asks what the profile's does
+pub compiled-long : (delta : ℕ) (x spans : List ℕ) → spans ≡ spansOf delta x → length x ≤ maxPoints → 4 * length x ≤ length spans
+compiled-long delta x spans made few =
+    omega (arith, ap length made ∙ length-overlay (spansFor delta x) (replicate (4 * maxPoints) 0), length-replicate {A = ℕ} (4 * maxPoints) 0)
 
-  pub compiled-rule : SameRule (length x) (ruleIn spans) (ruleOf delta x)
-  compiled-rule = rw made (same-rule delta x (ok .asked .few))
+module _ (delta gamma : ℕ) (x spans : List ℕ) (made : spans ≡ spansOf delta x) (few : length x ≤ maxPoints) where
+  compiled-rule : SameRule (length x) (ruleIn spans) (ruleOf delta x)
+  compiled-rule = rw made (same-rule delta x few)
 
   pub compiled-near : (i a : ℕ) → i < length x → nearBy (ruleIn spans) gamma i a ≡ fitOf (dOf delta gamma) x i a
   compiled-near i a l = same-near (length x) (ruleIn spans) (ruleOf delta x) compiled-rule gamma i a l ∙ near-derived delta gamma x i a
 
+  pub compiled-place : (y : List ℕ) (t : ℕ) → isPlaceBy (ruleIn spans) (length x) gamma y t ≡ true → Place delta gamma x y t
+  compiled-place y t e = by-place delta gamma x y t (sym (same-place (length x) (ruleIn spans) (ruleOf delta x) compiled-rule gamma y t) ∙ e)
+
+-- a search that is accepted is ready to go over its spans, and what it answers there is its answer
+module _ (delta gamma : ℕ) (x y spans : List ℕ) (made : spans ≡ spansOf delta x) (ok : Accepted delta gamma x y) where
+  pub ready : Ready spans (length x) gamma (length y)
+  ready = record {
+    some = ok .asked .some;
+    few = ok .asked .few;
+    full = compiled-long delta x spans made (ok .asked .few);
+    gamma-small = ok .asked .gamma-small;
+    short = ok .short;
+  }
+
   pub compiled-answer : (tried tried′ : ℕ) {entry final : Lent} {r : Search} → tried ≡ tried′
       → Answer 0 (soughtBy (ruleIn spans) (length x) gamma y) tried entry r final → Answers delta gamma x y tried′ entry r final
-  compiled-answer tried tried′ e a = rw (← e) (same-answer (ruleIn spans) delta gamma x y tried ok compiled-rule a)
+  compiled-answer tried tried′ e a =
+      rw (← e) (same-answer (ruleIn spans) delta gamma x y tried ok (compiled-rule delta gamma x spans made (ok .asked .few)) a)

@@ -40,6 +40,15 @@ module _ (delta gamma : ℕ) (x y : List ℕ) (s : ℕ) where
       place-of delta gamma x y s (by-inside (ruleOf delta x) (length x) gamma y s e) (by-fit (ruleOf delta x) (length x) gamma y s e)
       (by-within (ruleOf delta x) (length x) gamma y s e)
 
+  -- so say the relation and the test under the profile's rule
+  pub place-by : Place delta gamma x y s → isPlaceBy (ruleOf delta x) (length x) gamma y s ≡ true
+  unfolding isPlace
+  place-by p = place-test p
+
+  pub by-place : isPlaceBy (ruleOf delta x) (length x) gamma y s ≡ true → Place delta gamma x y s
+  unfolding isPlace
+  by-place e = test-place e
+
   -- a place is one of the windows
   pub place-below : Place delta gamma x y s → s < windows (length x) (length y)
   place-below p = omega (arith, p .inside)

@@ -9,11 +9,11 @@ use native.Mathlib.Omega.{arith}
 use lib.ListN.{length, getD}
 use Rattle.fit.specs.Reading.{lowest, highest, diff, alike, near}
 use Rattle.fit.specs.Rule.{Rule, readingAt, nearBy}
-use Rattle.fit.specs.Place.{fitOf, ruleOf, Place, isPlace, dOf}
+use Rattle.fit.specs.Place.{fitOf, ruleOf, Place, dOf}
 use Rattle.fit.specs.Refusal.{Asked}
 use Rattle.fit.proofs.Laws.Bools.{either, not-both}
 use Rattle.fit.proofs.Laws.Readings.{near-le, near-self}
-use Rattle.fit.proofs.Laws.Places.{place-test, test-place, near-derived}
+use Rattle.fit.proofs.Laws.Places.{place-by, by-place, near-derived}
 use Rattle.fit.proofs.Laws.Refusals.{asked-real}
 use Rattle.jumps.specs.Jumps.{lastJump, nextJump, afterJump, lonely, earlier, mismatchAt, mismatchJump, fullAt, fullJump, somewhereFar}
 use Rattle.jumps.specs.Demand.{Readings, Passed, NotTooLong, Reaches, Occurs, LastIs, NextIs, LastNear, MismatchedAt, Mismatch, AllNear}
@@ -41,21 +41,12 @@ module _ (delta gamma : ℕ) (x : List ℕ) (asked : Asked delta gamma x) where
   abbrev rule : Rule
   rule = ruleOf delta x
 
-  -- ---- places under the rule of the profile are its places
-  by-place : (y : List ℕ) (t : ℕ) → Place delta gamma x y t → PlaceBy rule m gamma y t
-  unfolding isPlace
-  by-place y t p = place-test delta gamma x y t p
-
-  place-by : (y : List ℕ) (t : ℕ) → PlaceBy rule m gamma y t → Place delta gamma x y t
-  unfolding isPlace
-  place-by y t e = test-place delta gamma x y t e
-
   long : (E : List ℕ → ℕ → Type 0) (from j k : ℕ) → j ≡ k → NotTooLong (PlaceBy rule m gamma) E from j → NotTooLong (Place delta gamma x) E from k
   long E from j k e h =
-      long-as (PlaceBy rule m gamma) (Place delta gamma x) E from k by-place (subst (NotTooLong (PlaceBy rule m gamma) E from) e h)
+      long-as (PlaceBy rule m gamma) (Place delta gamma x) E from k (λ y t p. place-by delta gamma x y t p) (subst (NotTooLong (PlaceBy rule m gamma) E from) e h)
 
   reaches : (E : List ℕ → ℕ → Type 0) (j k : ℕ) → j ≡ k → Reaches (PlaceBy rule m gamma) E j → Reaches (Place delta gamma x) E k
-  reaches E j k e h = reaches-as (PlaceBy rule m gamma) (Place delta gamma x) E k place-by (subst (Reaches (PlaceBy rule m gamma) E) e h)
+  reaches E j k e h = reaches-as (PlaceBy rule m gamma) (Place delta gamma x) E k (λ y t e. by-place delta gamma x y t e) (subst (Reaches (PlaceBy rule m gamma) E) e h)
 
   -- ---- what may stand at a point is what is near it
   near-of : (i c : ℕ) → nearBy rule gamma i c ≡ true → near d (at i) c ≡ true
@@ -83,7 +74,7 @@ module _ (delta gamma : ℕ) (x : List ℕ) (asked : Asked delta gamma x) where
   pub after-check-passes : (y : List ℕ) (s t : ℕ) → LastNear (dOf delta gamma) x y s → Passed 1 (afterJump (dOf delta gamma) x) s t → Place delta gamma x y t → ⊥
   after-check-passes y s t e p place =
       single-passes rule m gamma last m (m - 1) 1 m (λ c. near d (at last) c ≡ true) (λ i. alike (2 * d) (at i) (at last))
-      (omega (arith, asked .some)) (omega arith) (omega (arith, asked .some)) (omega (arith, asked .some)) alike-last y s t e p (by-place y t place)
+      (omega (arith, asked .some)) (omega arith) (omega (arith, asked .some)) (omega (arith, asked .some)) alike-last y s t e p (place-by delta gamma x y t place)
 
   pub after-check-not-too-long : NotTooLong (Place delta gamma x) (LastNear (dOf delta gamma) x) 1 (afterJump (dOf delta gamma) x)
   after-check-not-too-long y s t rd = after-check-passes y s t

@@ -25,11 +25,11 @@ ok c = begun-accepted _ _ _ _ (c .before .before .begin .ensures) (c .if1 .left)
 abbrev Opened : tie.After-low-bits → Type 0
 Opened c =
     let a = c .before .before .before .before .before .before .before .before .before .args in
-    Open (a .delta) (a .gamma) (a .points .now) (a .recording .now) (c .before .before .lesser .result) (c .before .lesser2 .result) (c .low-bits .result)
+    Open (a .delta) (a .gamma) (a .points .now) (a .recording .now) (c .before .before .smaller .result) (c .before .smaller2 .result) (c .low-bits .result)
 
 open-at : (c : tie.After-low-bits) → Opened c
 open-at c =
-    opened _ _ _ _ _ _ _ (ok (c .before .before .before)) (c .before .before .lesser .ensures) (c .before .lesser2 .ensures) (c .low-bits .ensures)
+    opened _ _ _ _ _ _ _ (ok (c .before .before .before)) (c .before .before .smaller .ensures) (c .before .smaller2 .ensures) (c .low-bits .ensures)
 
 begin-requires : tie.Need-begin-requires
 begin-requires c κs = search needs
@@ -40,16 +40,16 @@ returns c = refused-first _ _ _ _ _ (c .before .before .begin .ensures) (c .if1 
 cast-m : tie.Need-cast-m
 cast-m c = omega (arith, ok c)
 
-lesser-requires : tie.Need-lesser-requires
-lesser-requires c κs = search needs
+smaller-requires : tie.Need-smaller-requires
+smaller-requires c κs = search needs
 
-mul-lesser : tie.Need-mul-lesser
-mul-lesser c =
+mul-smaller : tie.Need-mul-smaller
+mul-smaller c =
     let a = ok (c .before) .asked in
-    omega (arith, product-le _ (c .lesser .result) 255 (a .few) (omega (arith, c .lesser .ensures, a .delta-small)))
+    omega (arith, product-le _ (c .smaller .result) 255 (a .few) (omega (arith, c .smaller .ensures, a .delta-small)))
 
-lesser-requires-2 : tie.Need-lesser-requires-2
-lesser-requires-2 c κs = search needs
+smaller-requires-2 : tie.Need-smaller-requires-2
+smaller-requires-2 c κs = search needs
 
 low-bits-requires : tie.Need-low-bits-requires
 low-bits-requires c κs = search needs
@@ -112,9 +112,9 @@ search-spec =
     begin-requires
     returns
     cast-m
-    lesser-requires
-    mul-lesser
-    lesser-requires-2
+    smaller-requires
+    mul-smaller
+    smaller-requires-2
     low-bits-requires
     add-if2
     mul-if2

@@ -1,7 +1,8 @@
 -- `last_reading` meets its contract: refused, or the jump over the spans, which is that of the points. Assumes nothing.
 use mathlib.Core.Path.{_∙_}
 use native.Mathlib.Omega.{arith}
-use Rattle.jumps.proofs.Laws.OverSpans.{spans-long, last-over-spans}
+use Rattle.fit.proofs.Laws.Compiled.{compiled-long}
+use Rattle.jumps.proofs.Laws.OverSpans.{last-over-spans}
 use Rattle.questions.proofs.Laws.Askings.{refused, granted, past}
 use borrow.Author.Needs.{needs}
 use Rattle.questions.proofs.last_reading.Statement.{statement}
@@ -26,7 +27,7 @@ last-jump-requires : tie.Need-last-jump-requires
 last-jump-requires c κs =
     let made = c .before in
     let ok = past _ _ _ _ (made .before .before .asked .ensures) (made .before .if1 .left) in
-    spans-long _ _ _ _ (made .spans-of .ensures) ok
+    compiled-long _ _ _ (made .spans-of .ensures) (ok .few)
 
 answer-requires-2 : tie.Need-answer-requires-2
 answer-requires-2 c κs = search needs

@@ -1,7 +1,8 @@
 -- `next_reading` meets its contract: refused, or the jump over the spans, which is that of the points. Assumes nothing.
 use mathlib.Core.Path.{_∙_}
 use native.Mathlib.Omega.{arith}
-use Rattle.jumps.proofs.Laws.OverSpans.{spans-long, next-over-spans}
+use Rattle.fit.proofs.Laws.Compiled.{compiled-long}
+use Rattle.jumps.proofs.Laws.OverSpans.{next-over-spans}
 use Rattle.questions.proofs.Laws.Askings.{refused, granted, past}
 use borrow.Author.Needs.{needs}
 use Rattle.questions.proofs.next_reading.Statement.{statement}
@@ -26,7 +27,7 @@ next-jump-requires : tie.Need-next-jump-requires
 next-jump-requires c κs =
     let made = c .before in
     let ok = past _ _ _ _ (made .before .before .asked .ensures) (made .before .if1 .left) in
-    (spans-long _ _ _ _ (made .spans-of .ensures) ok, omega (arith, ok))
+    (compiled-long _ _ _ (made .spans-of .ensures) (ok .few), omega (arith, ok))
 
 answer-requires-2 : tie.Need-answer-requires-2
 answer-requires-2 c κs = search needs

@@ -38,7 +38,7 @@ returns-2 c =
     let past = made .before in
     let spans = made .spans-of .ensures in
     let ok = begun-accepted _ _ _ _ (past .before .before .begin .ensures) (past .if1 .left) in
-    compiled-answer _ _ _ _ _ spans ok _ _ (ap length (same-walk _ _ _ (compiled-near _ _ _ _ _ spans ok) _)) (done .over-spans .ensures)
+    compiled-answer _ _ _ _ _ spans ok _ _ (ap length (same-walk _ _ _ (compiled-near _ _ _ _ spans (ok .asked .few)) _)) (done .over-spans .ensures)
 
 pub search-spec : {M : Type 1} → statement M
 search-spec =

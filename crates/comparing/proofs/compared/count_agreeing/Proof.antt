@@ -3,18 +3,19 @@ use Prim.Native.Nat.{_-_}
 use mathlib.Core.Path.{sym, _∙_}
 use native.Mathlib.Omega.{arith}
 use lib.ListN.{length}
-use Rattle.comparing.proofs.Laws.Orders.{order-point, Agreed, agreed-none, agreed-more, agreed-stop, agreed-end}
+use Rattle.jumps.specs.Jumps.{agreesAt}
+use Rattle.comparing.proofs.Laws.Orders.{order-point, Led, led-none, led-more, led-stop, led-end}
 use Rattle.comparing.proofs.compared.count_agreeing.Statement.{statement}
 use Rattle.comparing.proofs.compared.count_agreeing.Tie as tie
 
 abbrev Inv-loop : tie.InvT-loop
-Inv-loop points d order k j₀ j = Agreed d points k j
+Inv-loop points d order k j₀ j = Led d points (agreesAt d points k) j
 
 abbrev μ-loop : tie.MeasureT-loop
 μ-loop points d order k j₀ j = length points - j
 
 loop-holds : tie.Need-loop-holds Inv-loop μ-loop
-loop-holds c = agreed-none _ _ _
+loop-holds c = led-none _ _ _
 
 shared-slice-read-size : tie.Need-shared-slice-read-size Inv-loop μ-loop
 shared-slice-read-size c = omega arith
@@ -38,16 +39,16 @@ loop-again : tie.Need-loop-again Inv-loop μ-loop
 loop-again c =
     let pre = c .before .before .before .before .before .before .before .before .pre in
     let at = c .before .before .size .ensures ∙ pre .1 .at _ (omega arith) in
-    agreed-more _ _ (c .before .before .before .before .before .loop .inv) (sym (rw at at (c .before .agrees .ensures)) ∙ c .if1 .taken) (omega arith)
+    led-more _ _ _ (c .before .before .before .before .before .loop .inv) (sym (rw at at (c .before .agrees .ensures)) ∙ c .if1 .taken) (omega arith)
 
 returns : tie.Need-returns Inv-loop μ-loop
 returns c =
     let pre = c .before .before .before .before .before .before .before .before .pre in
     let at = c .before .before .size .ensures ∙ pre .1 .at _ (omega arith) in
-    (agreed-stop _ _ (c .before .before .before .before .before .loop .inv) (sym (rw at at (c .before .agrees .ensures)) ∙ c .if1 .left), omega arith)
+    (led-stop _ _ _ (c .before .before .before .before .before .loop .inv) (sym (rw at at (c .before .agrees .ensures)) ∙ c .if1 .left), omega arith)
 
 returns-2 : tie.Need-returns-2 Inv-loop μ-loop
-returns-2 c = (agreed-end _ _ (c .before .loop .inv) (omega arith), omega arith)
+returns-2 c = (led-end _ _ _ (c .before .loop .inv) (omega arith), omega arith)
 
 pub count-agreeing-spec : {M : Type 1} → statement M
 count-agreeing-spec =

@@ -1,0 +1,89 @@
+use Rattle.comparing.specs.Writing.{HoldsOrder}
+use Rattle.maximal.proofs.Laws.Steps.{compared-at, compared-in}
+-- `near_points` meets its contract: the first j of the order are near. Assumes nothing.
+use Prim.Native.Nat.{_+_, _-_, _≤_, _<_}
+use mathlib.Core.Path.{sym, _∙_}
+use native.Mathlib.Omega.{arith}
+use lib.ListN.{length}
+use borrow.Author.Needs.{needs}
+use Rattle.comparing.proofs.Laws.Orders.{order-point, Led, led-none, led-more, led-stop, led-end}
+use Rattle.maximal.specs.Walk.{nearAt}
+use Rattle.maximal.proofs.step.near_points.Statement.{statement}
+use Rattle.maximal.proofs.step.near_points.Tie as tie
+
+abbrev Inv-loop : tie.InvT-loop
+Inv-loop points d order recording s j₀ j = HoldsOrder d points order × (s + length points ≤ length recording) × Led d points (nearAt d points recording s) j
+
+abbrev μ-loop : tie.MeasureT-loop
+μ-loop points d order recording s j₀ j = length points - j
+
+loop-holds : tie.Need-loop-holds Inv-loop μ-loop
+loop-holds c =
+    let known = c .before .before .before .pre in
+    (known .0, known .2, led-none _ _ _)
+
+shared-slice-read-wide : tie.Need-shared-slice-read-wide Inv-loop μ-loop
+shared-slice-read-wide c = omega arith
+
+wide-requires : tie.Need-wide-requires Inv-loop μ-loop
+wide-requires c κs = omega arith
+
+shared-slice-read-is-near : tie.Need-shared-slice-read-is-near Inv-loop μ-loop
+shared-slice-read-is-near c =
+    let inv = c .before .before .before .before .loop .inv in
+    compared-in _ _ _ _ _ (inv .0) (omega arith) (c .before .wide .ensures .0)
+
+add-is-near : tie.Need-add-is-near Inv-loop μ-loop
+add-is-near c = omega arith
+
+shared-slice-read-is-near-2 : tie.Need-shared-slice-read-is-near-2 Inv-loop μ-loop
+shared-slice-read-is-near-2 c =
+    let inv = c .before .before .before .before .before .loop .inv in
+    omega (arith, compared-in _ _ _ _ _ (inv .0) (omega arith) (c .before .before .wide .ensures .0))
+
+is-near-requires : tie.Need-is-near-requires Inv-loop μ-loop
+is-near-requires c κs = omega arith
+
+add-j : tie.Need-add-j Inv-loop μ-loop
+add-j c = omega arith
+
+loop-less : tie.Need-loop-less Inv-loop μ-loop
+loop-less c = omega arith
+
+loop-again : tie.Need-loop-again Inv-loop μ-loop
+loop-again c =
+    let seen = c .before in
+    let read = seen .before .before .before in
+    let inv = read .before .before .before .loop .inv in
+    let at = compared-at _ _ _ _ _ (inv .0) (omega arith) (read .wide .ensures .0) in
+    (inv .0, inv .1, led-more _ _ _ (inv .2) (sym (rw at at (seen .is-near .ensures)) ∙ c .if1 .taken) (omega arith))
+
+returns : tie.Need-returns Inv-loop μ-loop
+returns c =
+    let seen = c .before in
+    let read = seen .before .before .before in
+    let inv = read .before .before .before .loop .inv in
+    let at = compared-at _ _ _ _ _ (inv .0) (omega arith) (read .wide .ensures .0) in
+    (led-stop _ _ _ (inv .2) (sym (rw at at (seen .is-near .ensures)) ∙ c .if1 .left), omega arith)
+
+returns-2 : tie.Need-returns-2 Inv-loop μ-loop
+returns-2 c = (led-end _ _ _ (c .before .loop .inv .2) (omega arith), omega arith)
+
+pub near-points-spec : {M : Type 1} → statement M
+near-points-spec =
+    tie.close
+    (tie.spec
+    Inv-loop
+    μ-loop
+    loop-holds
+    shared-slice-read-wide
+    wide-requires
+    shared-slice-read-is-near
+    add-is-near
+    shared-slice-read-is-near-2
+    is-near-requires
+    add-j
+    loop-less
+    loop-again
+    returns
+    returns-2)

@@ -1,0 +1,38 @@
+// The maximal searcher: it compares points in the order that promises the longest jumps, and takes the larger of two jumps.
+mod step;
+
+use fit::Search;
+ghost use lib.ListN.{length};
+ghost use Rattle.fit.specs.Place.{dOf};
+ghost use Rattle.fit.specs.Answer.{lent, Answers};
+ghost use Rattle.maximal.specs.Walk.{maximalWalk};
+
+// Lists the places of the profile in the recording, and counts them and the windows tried.
+pub fn search(points: &[u8], delta: u32, gamma: u32, recording: &[u8], list: &mut [u32]) -> Search
+    ensures { λ r. ⌜
+        Answers delta gamma (now (points .entry)) (now (recording .entry))
+        (length (maximalWalk (dOf delta gamma) (now (points .entry)) (now (recording .entry))))
+        (lent (now (list .entry))) r (lent (now (list .exit))) ⌝ }
+{
+    let mut found = fit::begin(points, delta, gamma, recording);
+    if found.refusal != 0 {
+        return found;
+    }
+    let m = points.len();
+    let d = fit::smaller(delta, gamma);
+    let spans = fit::spans_of(points, delta);
+    let next = tables::next_table(&spans, m, gamma);
+    let compared = comparing::compared_of(points, d);
+    let order = compared.order;
+    let jumps = compared.jumps;
+    let full = tables::full_jump(points, d);
+    let count = fit::count_windows(m, recording);
+    let mut s = 0;
+    while s < count {
+        let near = step::near_points(points, d, &order, recording, s);
+        found = step::try_compared(&spans, m, gamma, recording, list, s, near, found);
+        let jump = step::compared_jump(m, &order, &jumps, full, near);
+        s += step::larger_jump(&next, m, recording, s, jump);
+    }
+    found
+}

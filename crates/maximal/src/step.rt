@@ -1,0 +1,106 @@
+// One step of the walk: the comparison, the window tried, and the jump.
+use fit::Search;
+ghost use mathlib.Core.Path.{_≡_};
+ghost use mathlib.Core.Bool.{false, cond};
+ghost use Prim.Native.Nat.{_+_, _*_, _≤_, _<_, _^_, max};
+ghost use lib.ListN.{length, getD};
+ghost use lib.Dec.{ltb};
+ghost use Rattle.fit.specs.Rule.{isPlaceBy};
+ghost use Rattle.fit.specs.Refusal.{maxPoints, maxGamma};
+ghost use Rattle.fit.specs.Spans.{ruleIn};
+ghost use Rattle.fit.specs.Answer.{soughtBy, lent, Tried};
+ghost use Rattle.comparing.specs.Leading.{leading};
+ghost use Rattle.comparing.specs.Order.{compareOrder};
+ghost use Rattle.comparing.specs.Writing.{HoldsOrder};
+ghost use Rattle.maximal.specs.Walk.{nearAt};
+
+fn wide(a: u8) -> usize
+    ensures { λ r. ⌜ (r ≡ a) × (r ≤ 255) ⌝ }
+{
+    a as usize
+}
+
+// How many points, in compare order, are near in the window at s before one that is not.
+pub(crate) fn near_points(points: &[u8], d: u32, order: &[u8], recording: &[u8], s: usize) -> usize
+    requires { ⌜ HoldsOrder d (now points) (now order) × (length (now points) ≤ maxPoints) × (s + length (now points) ≤ length (now recording)) ⌝ }
+    ensures { λ r. ⌜
+        (r ≡ leading (nearAt d (now (points .entry)) (now (recording .entry)) s) (compareOrder d (now (points .entry))))
+        × (r ≤ length (now (points .entry))) ⌝ }
+{
+    let mut j = 0;
+    while j < points.len() {
+        let q = wide(order[j]);
+        if fit::is_near(d, points[q], recording[s + q]) {
+            j += 1;
+        } else {
+            return j;
+        }
+    }
+    j
+}
+
+// Tries the window at s, of whose points `near` are near before one that is not: only where all m are, its sum is looked at.
+pub(crate) fn try_compared(
+    spans: &[u16],
+    m: usize,
+    gamma: u32,
+    recording: &[u8],
+    list: &mut [u32],
+    s: usize,
+    near: usize,
+    before: Search,
+) -> Search
+    requires { ⌜ (m ≤ maxPoints) × (4 * m ≤ length (now spans)) × (s + m ≤ length (now recording)) × (gamma ≤ maxGamma) ⌝ }
+    requires { ⌜ (s < 2 ^ 32) × (before .total < 2 ^ 32) × (before .tried < 2 ^ 32) ⌝ }
+    requires { ⌜ (near < m → isPlaceBy (ruleIn (now spans)) m gamma (now recording) s ≡ false) ⌝ }
+    ensures { λ r. ⌜
+        Tried (soughtBy (ruleIn (now (spans .entry))) m gamma (now (recording .entry))) s before
+        (lent (now (list .entry))) r (lent (now (list .exit))) ⌝ }
+{
+    if near < m {
+        return fit::note(list, s, false, before);
+    }
+    fit::try_at(spans, m, gamma, recording, list, s, before)
+}
+
+// The mismatch jump of the point that is compared after `near` others, or the full jump.
+pub(crate) fn compared_jump(m: usize, order: &[u8], jumps: &[u8], full: usize, near: usize) -> usize
+    requires { ⌜ (m ≤ length (now order)) × (near < m → getD (now order) near 0 < length (now jumps)) ⌝ }
+    ensures { λ r. ⌜ r ≡ cond (ltb near m) (getD (now (jumps .entry)) (getD (now (order .entry)) near 0) 0) full ⌝ }
+{
+    if near < m {
+        let p = wide(order[near]);
+        return wide(jumps[p]);
+    }
+    full
+}
+
+// The larger of that and the next-reading jump; after the last window, where no reading is, 1.
+pub(crate) fn larger_jump(
+    next: &[u8; 256],
+    m: usize,
+    recording: &[u8],
+    s: usize,
+    jump: usize,
+) -> usize
+    requires { ⌜ s + m ≤ length (now recording) ⌝ }
+    ensures { λ r. ⌜ r ≡ cond (ltb (s + m) (length (now (recording .entry)))) (max (getD (now (next .entry)) (getD (now (recording .entry)) (s + m) 0) 0) jump) 1 ⌝ }
+{
+    let end = s + m;
+    if end < recording.len() {
+        return larger(jump_at(next, recording[end]), jump);
+    }
+    1
+}
+
+fn larger(a: usize, b: usize) -> usize
+    ensures { λ r. ⌜ r ≡ max a b ⌝ }
+{
+    if a < b { b } else { a }
+}
+
+fn jump_at(table: &[u8; 256], a: u8) -> usize
+    ensures { λ r. ⌜ (r ≡ getD (now (table .entry)) a 0) × (r ≤ 255) ⌝ }
+{
+    wide(table[a as usize])
+}
