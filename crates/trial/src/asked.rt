@@ -18,47 +18,12 @@ pub(crate) fn questions(
     delta: u32,
     gamma: u32,
 ) -> usize {
-    let at = line(
-        page,
-        at,
-        b"last_reading",
-        Question::LastReading,
-        points,
-        delta,
-        gamma,
-        256,
-    );
-    let at = line(
-        page,
-        at,
-        b"next_reading",
-        Question::NextReading,
-        points,
-        delta,
-        gamma,
-        256,
-    );
-    let at = line(
-        page,
-        at,
-        b"after_check",
-        Question::AfterCheck,
-        points,
-        delta,
-        gamma,
-        1,
-    );
-    let at = line(page, at, b"full", Question::Full, points, delta, gamma, 1);
-    line(
-        page,
-        at,
-        b"mismatch",
-        Question::Mismatch,
-        points,
-        delta,
-        gamma,
-        point_numbers(points),
-    )
+    let count = point_numbers(points);
+    let at = line(page, at, Question::LastReading, points, delta, gamma, 256);
+    let at = line(page, at, Question::NextReading, points, delta, gamma, 256);
+    let at = line(page, at, Question::AfterCheck, points, delta, gamma, 1);
+    let at = line(page, at, Question::Full, points, delta, gamma, 1);
+    line(page, at, Question::Mismatch, points, delta, gamma, count)
 }
 
 // From 0 to one above the last point; where there are too many points, as if there were 64.
@@ -74,14 +39,13 @@ fn point_numbers(points: &[u8]) -> usize {
 fn line(
     page: &mut [u8],
     at: usize,
-    name: &[u8],
     question: Question,
     points: &[u8],
     delta: u32,
     gamma: u32,
     count: usize,
 ) -> usize {
-    let mut end = framed::put_text(page, at, name);
+    let mut end = name(page, at, question);
     let mut k = 0;
     while k < count {
         let answer = ask(question, points, delta, gamma, k);
@@ -90,6 +54,16 @@ fn line(
         k += 1;
     }
     framed::put_text(page, end, b"\n")
+}
+
+fn name(page: &mut [u8], at: usize, question: Question) -> usize {
+    match question {
+        Question::LastReading => framed::put_text(page, at, b"last_reading"),
+        Question::NextReading => framed::put_text(page, at, b"next_reading"),
+        Question::AfterCheck => framed::put_text(page, at, b"after_check"),
+        Question::Full => framed::put_text(page, at, b"full"),
+        Question::Mismatch => framed::put_text(page, at, b"mismatch"),
+    }
 }
 
 fn ask(question: Question, points: &[u8], delta: u32, gamma: u32, k: usize) -> Jump {

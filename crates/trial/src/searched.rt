@@ -5,7 +5,8 @@ use fit::Search;
 // A lent list has at most so many entries.
 const MOST_ROOM: usize = 200;
 
-enum Searcher {
+// By which searcher.
+enum By {
     Plain,
     Packed,
     Last,
@@ -22,68 +23,17 @@ pub(crate) fn searches(
     recording: &[u8],
     room: usize,
 ) -> usize {
-    let at = with_list(
-        page,
-        0,
-        b"plain",
-        Searcher::Plain,
-        points,
-        delta,
-        gamma,
-        recording,
-        room,
-    );
-    let at = with_list(
-        page,
-        at,
-        b"packed",
-        Searcher::Packed,
-        points,
-        delta,
-        gamma,
-        recording,
-        room,
-    );
-    let at = with_list(
-        page,
-        at,
-        b"last",
-        Searcher::Last,
-        points,
-        delta,
-        gamma,
-        recording,
-        room,
-    );
-    let at = with_list(
-        page,
-        at,
-        b"skip",
-        Searcher::Skip,
-        points,
-        delta,
-        gamma,
-        recording,
-        room,
-    );
-    with_list(
-        page,
-        at,
-        b"maximal",
-        Searcher::Maximal,
-        points,
-        delta,
-        gamma,
-        recording,
-        room,
-    )
+    let at = with_list(page, 0, By::Plain, points, delta, gamma, recording, room);
+    let at = with_list(page, at, By::Packed, points, delta, gamma, recording, room);
+    let at = with_list(page, at, By::Last, points, delta, gamma, recording, room);
+    let at = with_list(page, at, By::Skip, points, delta, gamma, recording, room);
+    with_list(page, at, By::Maximal, points, delta, gamma, recording, room)
 }
 
 fn with_list(
     page: &mut [u8],
     at: usize,
-    name: &[u8],
-    searcher: Searcher,
+    by: By,
     points: &[u8],
     delta: u32,
     gamma: u32,
@@ -97,8 +47,7 @@ fn with_list(
     line(
         page,
         at,
-        name,
-        searcher,
+        by,
         points,
         delta,
         gamma,
@@ -111,8 +60,7 @@ fn with_list(
 fn line(
     page: &mut [u8],
     at: usize,
-    name: &[u8],
-    searcher: Searcher,
+    by: By,
     points: &[u8],
     delta: u32,
     gamma: u32,
@@ -120,11 +68,21 @@ fn line(
     list: &mut [u32],
 ) -> usize {
     lines::mark(list);
-    let found = search(searcher, points, delta, gamma, recording, list);
-    let named = framed::put_text(page, at, name);
+    let found = search(by, points, delta, gamma, recording, list);
+    let named = name(page, at, by);
     let counted = counts(page, named, found);
     let listed = lines::entries(page, counted, list);
     framed::put_text(page, listed, b"\n")
+}
+
+fn name(page: &mut [u8], at: usize, by: By) -> usize {
+    match by {
+        By::Plain => framed::put_text(page, at, b"plain"),
+        By::Packed => framed::put_text(page, at, b"packed"),
+        By::Last => framed::put_text(page, at, b"last"),
+        By::Skip => framed::put_text(page, at, b"skip"),
+        By::Maximal => framed::put_text(page, at, b"maximal"),
+    }
 }
 
 fn counts(page: &mut [u8], at: usize, found: Search) -> usize {
@@ -134,18 +92,18 @@ fn counts(page: &mut [u8], at: usize, found: Search) -> usize {
 }
 
 fn search(
-    searcher: Searcher,
+    by: By,
     points: &[u8],
     delta: u32,
     gamma: u32,
     recording: &[u8],
     list: &mut [u32],
 ) -> Search {
-    match searcher {
-        Searcher::Plain => plain::search(points, delta, gamma, recording, list),
-        Searcher::Packed => packed::search(points, delta, gamma, recording, list),
-        Searcher::Last => last::search(points, delta, gamma, recording, list),
-        Searcher::Skip => skip::search(points, delta, gamma, recording, list),
-        Searcher::Maximal => maximal::search(points, delta, gamma, recording, list),
+    match by {
+        By::Plain => plain::search(points, delta, gamma, recording, list),
+        By::Packed => packed::search(points, delta, gamma, recording, list),
+        By::Last => last::search(points, delta, gamma, recording, list),
+        By::Skip => skip::search(points, delta, gamma, recording, list),
+        By::Maximal => maximal::search(points, delta, gamma, recording, list),
     }
 }

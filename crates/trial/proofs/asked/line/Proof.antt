@@ -7,13 +7,13 @@ use Rattle.trial.proofs.asked.line.Statement.{statement}
 use Rattle.trial.proofs.asked.line.Tie as tie
 
 abbrev Inv-loop : tie.InvT-loop
-Inv-loop page₀ at name question points delta gamma count end₀ k₀ t13 page end k = (k ≤ count) × (length page ≡ length page₀)
+Inv-loop page₀ at question points delta gamma count end₀ k₀ t12 page end k = (k ≤ count) × (length page ≡ length page₀)
 
 abbrev μ-loop : tie.MeasureT-loop
-μ-loop page₀ at name question points delta gamma count end₀ k₀ t13 page end k = count - k
+μ-loop page₀ at question points delta gamma count end₀ k₀ t12 page end k = count - k
 
-put-text-requires : tie.Need-put-text-requires Inv-loop μ-loop
-put-text-requires c κs = search needs
+name-requires : tie.Need-name-requires Inv-loop μ-loop
+name-requires c κs = search needs
 
 loop-holds : tie.Need-loop-holds Inv-loop μ-loop
 loop-holds c = search needs
@@ -42,8 +42,8 @@ loop-again c = search needs
 slice-aggregate-put-text : tie.Need-slice-aggregate-put-text Inv-loop μ-loop
 slice-aggregate-put-text c = search needs
 
-put-text-requires-2 : tie.Need-put-text-requires-2 Inv-loop μ-loop
-put-text-requires-2 c κs = search needs
+put-text-requires : tie.Need-put-text-requires Inv-loop μ-loop
+put-text-requires c κs = search needs
 
 same-length : tie.Need-same-length Inv-loop μ-loop
 same-length c = search needs
@@ -57,7 +57,7 @@ line-spec =
     (tie.spec
     Inv-loop
     μ-loop
-    put-text-requires
+    name-requires
     loop-holds
     ask-requires
     cast-spaced
@@ -67,6 +67,6 @@ line-spec =
     loop-less
     loop-again
     slice-aggregate-put-text
-    put-text-requires-2
+    put-text-requires
     same-length
     returns)
