@@ -4,6 +4,7 @@ mod asked;
 mod lines;
 mod searched;
 
+use framed::Head;
 use libc::STDIN_FILENO;
 use libc::STDOUT_FILENO;
 ghost use mathlib.Core.Path.{_≡_};
@@ -25,23 +26,29 @@ fn one_case(points: &mut [u8], recording: &mut [u8]) -> bool {
     let head = framed::head_of(&bytes[..got]);
     let m = read_start(points, head.m);
     let n = read_start(recording, head.n);
+    if is_whole(got, m, n, head) {
+        print_case(
+            &points[..m],
+            head.delta,
+            head.gamma,
+            &recording[..n],
+            head.room,
+        );
+        return true;
+    }
+    io::write_all(STDOUT_FILENO, b"frame cut short, or too large\n");
+    false
+}
+
+// Whether all that the head says came: so many of its 16 bytes, of the points and of the readings.
+fn is_whole(got: usize, m: usize, n: usize, head: Head) -> bool {
     if got < 16 {
-        return cut_short();
+        return false;
     }
     if m < head.m {
-        return cut_short();
+        return false;
     }
-    if n < head.n {
-        return cut_short();
-    }
-    print_case(
-        &points[..m],
-        head.delta,
-        head.gamma,
-        &recording[..n],
-        head.room,
-    );
-    true
+    head.n <= n
 }
 
 // Prints the ten lines of one case, with lent lists of `room` entries.
@@ -60,11 +67,6 @@ fn read_start(buf: &mut [u8], n: usize) -> usize
         return 0;
     }
     io::read_full(STDIN_FILENO, &mut buf[..n])
-}
-
-fn cut_short() -> bool {
-    io::write_all(STDOUT_FILENO, b"frame cut short, or too large\n");
-    false
 }
 
 // A proved loop has to end, and nothing says that the input does. So it counts down, from a number that no run uses up.
