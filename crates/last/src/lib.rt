@@ -2,7 +2,7 @@
 use fit::Search;
 ghost use mathlib.Core.Path.{_≡_};
 ghost use Prim.Native.Nat.{_≤_, _<_};
-ghost use lib.ListN.{length, getD};
+ghost use lib.ListN.{length};
 ghost use Rattle.fit.specs.Rule.{nearBy};
 ghost use Rattle.fit.specs.Place.{fitOf, dOf};
 ghost use Rattle.fit.specs.Spans.{ruleIn, Ready};
@@ -38,18 +38,6 @@ pub fn search(points: &[u8], delta: u32, gamma: u32, recording: &[u8], list: &mu
     )
 }
 
-fn wide(jump: u8) -> usize
-    ensures { λ r. ⌜ (r ≡ jump) × (r ≤ 255) ⌝ }
-{
-    jump as usize
-}
-
-fn jump_at(table: &[u8; 256], a: u8) -> usize
-    ensures { λ r. ⌜ (r ≡ getD (now (table .entry)) a 0) × (r ≤ 255) ⌝ }
-{
-    wide(table[a as usize])
-}
-
 // The same for m points compiled to spans, with the table of their last-reading jumps and the jump after a tried window.
 fn over_spans(
     spans: &[u16],
@@ -72,7 +60,7 @@ fn over_spans(
     let mut found = start;
     let mut s = 0;
     while s < count {
-        let jump = jump_at(table, recording[s + (m - 1)]);
+        let jump = tables::jump_at(table, recording[s + (m - 1)]);
         if jump == 0 {
             found = fit::try_at(spans, m, gamma, recording, list, s, found);
             s += after;

@@ -88,7 +88,7 @@ pub(crate) fn larger_jump(
 {
     let end = s + m;
     if end < recording.len() {
-        return larger(jump_at(next, recording[end]), jump);
+        return larger(tables::jump_at(next, recording[end]), jump);
     }
     1
 }
@@ -97,10 +97,4 @@ fn larger(a: usize, b: usize) -> usize
     ensures { λ r. ⌜ r ≡ max a b ⌝ }
 {
     if a < b { b } else { a }
-}
-
-fn jump_at(table: &[u8; 256], a: u8) -> usize
-    ensures { λ r. ⌜ (r ≡ getD (now (table .entry)) a 0) × (r ≤ 255) ⌝ }
-{
-    wide(table[a as usize])
 }

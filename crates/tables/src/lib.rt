@@ -5,6 +5,7 @@ mod single;
 
 pub use several::full_jump;
 pub use single::after_jump;
+pub use single::jump_at;
 pub use single::last_jump;
 pub use single::last_table;
 pub use single::next_jump;

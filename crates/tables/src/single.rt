@@ -2,7 +2,7 @@
 ghost use mathlib.Core.Path.{_≡_};
 ghost use Prim.Native.Nat.{_+_, _-_, _*_, _≤_};
 ghost use lib.ListN.{length, getD};
-ghost use Rattle.fit.specs.Reading.{alike};
+ghost use Rattle.fit.specs.Reading.{highest, alike};
 ghost use Rattle.fit.specs.Rule.{nearBy};
 ghost use Rattle.fit.specs.Refusal.{maxPoints};
 ghost use Rattle.fit.specs.Spans.{ruleIn};
@@ -54,6 +54,19 @@ fn jump_table(spans: &[u16], m: usize, gamma: u32, top: usize) -> [u8; 256]
         a += 1;
     }
     table
+}
+
+fn wide(jump: u8) -> usize
+    ensures { λ r. ⌜ (r ≡ jump) × (r ≤ highest) ⌝ }
+{
+    jump as usize
+}
+
+// The entry of reading a.
+pub fn jump_at(table: &[u8; 256], a: u8) -> usize
+    ensures { λ r. ⌜ (r ≡ getD (now (table .entry)) a 0) × (r ≤ highest) ⌝ }
+{
+    wide(table[a as usize])
 }
 
 // The last-reading jumps of all readings.

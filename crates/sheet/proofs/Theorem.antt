@@ -1,0 +1,22 @@
+-- The sheet holds, by computation. Assumes nothing.
+use mathlib.Core.Path.{refl}
+use Rattle.fit.specs.Reading.{alike, near}
+use Rattle.fit.specs.Rule.{allFit, sumCost, isPlaceBy}
+use Rattle.fit.specs.Place.{isPlace}
+use Rattle.fit.specs.Listing.{upTo}
+use Rattle.fit.specs.Walk.{walkBy, walk}
+use Rattle.fit.specs.Refusal.{orElse, ofProfile, ofTolerance, ofRecording, askedOf, refusalOf}
+use Rattle.counters.specs.Width.{leastFrom, lowBits}
+use Rattle.packed.specs.Fourth.{ofWidth}
+use Rattle.jumps.specs.Least.{greatest, least, allBelow, someBelow}
+use Rattle.jumps.specs.Jumps.{lonely, loneAt, loneJump, earlier, agreesAt, mismatchAt, mismatchJump, fullAt, fullJump}
+use Rattle.comparing.specs.Order.{withLone, falling}
+use Rattle.questions.specs.Asking.{jumpAnswer, ofPoint}
+use Rattle.last.specs.Walk.{lastTries, lastNext}
+use Rattle.skip.specs.Walk.{probed, probes, skipWalk}
+use Rattle.maximal.specs.Walk.{comparedJump, maximalNext}
+use Rattle.sheet.specs.Sheet.{sheet, Holds}
+
+pub sheet-holds : Holds sheet
+unfolding alike near allFit sumCost isPlaceBy isPlace upTo walkBy walk orElse ofProfile ofTolerance ofRecording askedOf refusalOf leastFrom lowBits ofWidth greatest least allBelow someBelow lonely loneAt loneJump earlier agreesAt mismatchAt mismatchJump fullAt fullJump withLone falling jumpAnswer ofPoint lastTries lastNext probed probes skipWalk comparedJump maximalNext
+sheet-holds = ((refl, refl), ((refl, refl), ((refl, refl), ((refl, refl), ((refl, refl, refl, refl), ((refl, refl), ((refl, refl), ((refl, refl), ((refl, refl), (refl, (refl, (refl, (refl, (refl, ((refl, refl), ((refl, refl), (refl, (refl, (refl, (refl, (refl, (refl, tt))))))))))))))))))))))

@@ -1,0 +1,79 @@
+-- Document 01's sheet of examples, and what each row says: by the definitions that the contracts cite, so that it is what the functions
+-- answer. Assumes nothing.
+use Prim.Native.Nat.{ℕ, _-_}
+use mathlib.Core.Path.{_≡_}
+use mathlib.Core.List.{List, [], _∷_}
+use lib.ListN.{length, replicate}
+use Rattle.fit.specs.Place.{fitOf, dOf, windows}
+use Rattle.fit.specs.Refusal.{askedOf, refusalOf}
+use Rattle.fit.specs.Answer.{soughtOf, all}
+use Rattle.counters.specs.Width.{widthOf}
+use Rattle.packed.specs.Fourth.{bitsOf, packedRefusal}
+use Rattle.jumps.specs.Jumps.{lastJump, afterJump, mismatchJump}
+use Rattle.questions.specs.Asking.{jumpAnswer, mismatchAskedOf}
+use Rattle.last.specs.Walk.{lastWalk}
+use Rattle.skip.specs.Walk.{skipWalk}
+use Rattle.maximal.specs.Walk.{maximalWalk}
+
+-- a row: its input, and its result
+pub data Row : Type 0 where
+  places-are : (x y : List ℕ) (delta gamma : ℕ) (places : List ℕ) → Row
+  tried-are : (x y : List ℕ) (delta gamma plain last skip maximal : ℕ) → Row
+  width-is : (g width : ℕ) → Row
+  packed-is : (x : List ℕ) (delta gamma bits refusal : ℕ) → Row
+  last-reading-is : (x : List ℕ) (delta gamma a jump : ℕ) → Row
+  mismatch-is : (x : List ℕ) (delta gamma p jump : ℕ) → Row
+
+-- what it says
+abbrev pub Says : Row → Type 0
+Says (places-are x y delta gamma places) = (refusalOf delta gamma x y ≡ 0) × (all (soughtOf delta gamma x y) ≡ places)
+Says (tried-are x y delta gamma plain last skip maximal) =
+    (windows (length x) (length y) ≡ plain)
+    × (length (lastWalk (fitOf (dOf delta gamma) x) (length x) (afterJump (dOf delta gamma) x) y) ≡ last)
+    × (length (skipWalk (fitOf (dOf delta gamma) x) (length x) y) ≡ skip)
+    × (length (maximalWalk (dOf delta gamma) x y) ≡ maximal)
+Says (width-is g width) = widthOf g ≡ width
+Says (packed-is x delta gamma bits refusal) = (bitsOf delta gamma (length x) ≡ bits) × (packedRefusal delta gamma x [] ≡ refusal)
+Says (last-reading-is x delta gamma a jump) =
+    jumpAnswer (askedOf delta gamma x) (lastJump (fitOf (dOf delta gamma) x) (length x) a) ≡ jumpAnswer 0 jump
+Says (mismatch-is x delta gamma p jump) =
+    jumpAnswer (mismatchAskedOf delta gamma x p) (mismatchJump (dOf delta gamma) x (p - 1)) ≡ jumpAnswer 0 jump
+
+-- "P is 40 42 44. L is 40 42 44 41 43 45 39 42 43 70 41 41 43 40 (n = 14)."
+abbrev P : List ℕ
+P = 40 ∷ 42 ∷ 44 ∷ []
+
+abbrev L : List ℕ
+L = 40 ∷ 42 ∷ 44 ∷ 41 ∷ 43 ∷ 45 ∷ 39 ∷ 42 ∷ 43 ∷ 70 ∷ 41 ∷ 41 ∷ 43 ∷ 40 ∷ []
+
+-- E1 to E13, in order; behind E4 the windows tried that the program prints for it
+abbrev pub sheet : List Row
+sheet =
+    places-are P [] 1 2 []
+    ∷ places-are (1 ∷ []) (255 ∷ []) 254 254 (0 ∷ [])
+    ∷ places-are (1 ∷ []) (255 ∷ []) 253 254 []
+    ∷ places-are P L 1 2 (0 ∷ 6 ∷ [])
+    ∷ tried-are P L 1 2 12 5 6 5
+    ∷ places-are P L 1 3 (0 ∷ 3 ∷ 6 ∷ 10 ∷ [])
+    ∷ places-are P L 1 1 (0 ∷ [])
+    ∷ places-are P L 9 2 (0 ∷ 6 ∷ [])
+    ∷ places-are (7 ∷ 7 ∷ []) (7 ∷ 7 ∷ 7 ∷ []) 0 0 (0 ∷ 1 ∷ [])
+    ∷ width-is 0 1
+    ∷ width-is 1 2
+    ∷ width-is 3 3
+    ∷ width-is 4 4
+    ∷ width-is 16320 15
+    ∷ packed-is (replicate 16 40) 1 7 64 0
+    ∷ packed-is (replicate 16 40) 1 8 80 4
+    ∷ last-reading-is P 1 2 44 0
+    ∷ last-reading-is P 1 2 41 1
+    ∷ last-reading-is P 1 2 40 2
+    ∷ last-reading-is P 1 2 70 3
+    ∷ mismatch-is (6 ∷ 5 ∷ []) 1 2 2 1
+    ∷ mismatch-is (255 ∷ 254 ∷ []) 1 2 2 2
+    ∷ []
+
+-- every row of a table holds
+abbrev pub Holds : List Row → Type 0
+Holds [] = Unit {0}
+Holds (r ∷ rows) = Says r × Holds rows
