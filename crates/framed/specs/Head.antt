@@ -2,7 +2,7 @@
 use Prim.Native.Nat.{ℕ, zero, suc, _+_, _*_}
 use mathlib.Core.List.{List}
 use lib.ListN.{getD}
-use Rattle.framed.specs.declared.head.Head.{Head}
+use Rattle.framed.specs.declared.Head.{Head}
 
 -- the number in the k bytes from an index on, high byte first; a byte that is missing counts as 0
 unfoldable pub numberAt : List ℕ → ℕ → ℕ → ℕ

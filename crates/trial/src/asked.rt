@@ -53,16 +53,16 @@ fn line(
         end = lines::spaced(page, refused, answer.jump as u64);
         k += 1;
     }
-    framed::put_text(page, end, b"\n")
+    page::put_text(page, end, b"\n")
 }
 
 fn name(page: &mut [u8], at: usize, question: Question) -> usize {
     match question {
-        Question::LastReading => framed::put_text(page, at, b"last_reading"),
-        Question::NextReading => framed::put_text(page, at, b"next_reading"),
-        Question::AfterCheck => framed::put_text(page, at, b"after_check"),
-        Question::Full => framed::put_text(page, at, b"full"),
-        Question::Mismatch => framed::put_text(page, at, b"mismatch"),
+        Question::LastReading => page::put_text(page, at, b"last_reading"),
+        Question::NextReading => page::put_text(page, at, b"next_reading"),
+        Question::AfterCheck => page::put_text(page, at, b"after_check"),
+        Question::Full => page::put_text(page, at, b"full"),
+        Question::Mismatch => page::put_text(page, at, b"mismatch"),
     }
 }
 

@@ -30,8 +30,8 @@ fn wide(x: u32) -> u64 {
 }
 
 pub(crate) fn spaced(page: &mut [u8], at: usize, x: u64) -> usize {
-    let gap = framed::put_text(page, at, b" ");
-    framed::put_number(page, gap, x)
+    let gap = page::put_text(page, at, b" ");
+    page::put_number(page, gap, x)
 }
 
 // Writes the page up to `at`, which lies on it.

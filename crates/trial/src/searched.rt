@@ -72,16 +72,16 @@ fn line(
     let named = name(page, at, by);
     let counted = counts(page, named, found);
     let listed = lines::entries(page, counted, list);
-    framed::put_text(page, listed, b"\n")
+    page::put_text(page, listed, b"\n")
 }
 
 fn name(page: &mut [u8], at: usize, by: By) -> usize {
     match by {
-        By::Plain => framed::put_text(page, at, b"plain"),
-        By::Packed => framed::put_text(page, at, b"packed"),
-        By::Last => framed::put_text(page, at, b"last"),
-        By::Skip => framed::put_text(page, at, b"skip"),
-        By::Maximal => framed::put_text(page, at, b"maximal"),
+        By::Plain => page::put_text(page, at, b"plain"),
+        By::Packed => page::put_text(page, at, b"packed"),
+        By::Last => page::put_text(page, at, b"last"),
+        By::Skip => page::put_text(page, at, b"skip"),
+        By::Maximal => page::put_text(page, at, b"maximal"),
     }
 }
 

@@ -1,10 +1,10 @@
--- `framed::head::byte_at` meets its contract: past the end the byte counts as 0. Assumes nothing.
+-- `framed::byte_at` meets its contract: past the end the byte counts as 0. Assumes nothing.
 use mathlib.Core.Path.{sym}
 use native.Mathlib.Omega.{arith}
 use lib.ListN.{List·getD-eq-default}
 use borrow.Author.Needs.{needs}
-use Rattle.framed.proofs.head.byte_at.Statement.{statement}
-use Rattle.framed.proofs.head.byte_at.Tie as tie
+use Rattle.framed.proofs.byte_at.Statement.{statement}
+use Rattle.framed.proofs.byte_at.Tie as tie
 
 shared-slice-read-wide : tie.Need-shared-slice-read-wide
 shared-slice-read-wide c = search needs

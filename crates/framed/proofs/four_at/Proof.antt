@@ -1,8 +1,8 @@
--- `framed::head::four_at` meets its contract: two bytes and two bytes make four. Assumes nothing.
+-- `framed::four_at` meets its contract: two bytes and two bytes make four. Assumes nothing.
 use Rattle.framed.proofs.Laws.Heads.{four-bytes}
 use borrow.Author.Needs.{needs}
-use Rattle.framed.proofs.head.four_at.Statement.{statement}
-use Rattle.framed.proofs.head.four_at.Tie as tie
+use Rattle.framed.proofs.four_at.Statement.{statement}
+use Rattle.framed.proofs.four_at.Tie as tie
 
 two-at-requires : tie.Need-two-at-requires
 two-at-requires c κs = search needs

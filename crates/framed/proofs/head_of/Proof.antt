@@ -1,8 +1,8 @@
--- `framed::head::head_of` meets its contract: field by field. Assumes nothing.
+-- `framed::head_of` meets its contract: field by field. Assumes nothing.
 use Rattle.framed.specs.Head.{headOf}
 use borrow.Author.Needs.{needs}
-use Rattle.framed.proofs.head.head_of.Statement.{statement}
-use Rattle.framed.proofs.head.head_of.Tie as tie
+use Rattle.framed.proofs.head_of.Statement.{statement}
+use Rattle.framed.proofs.head_of.Tie as tie
 
 four-at-requires : tie.Need-four-at-requires
 four-at-requires c κs = search needs

@@ -1,9 +1,9 @@
--- `framed::head::two_at` meets its contract: one byte and one byte make two. Assumes nothing.
+-- `framed::two_at` meets its contract: one byte and one byte make two. Assumes nothing.
 use native.Mathlib.Omega.{arith}
 use Rattle.framed.proofs.Laws.Heads.{two-bytes}
 use borrow.Author.Needs.{needs}
-use Rattle.framed.proofs.head.two_at.Statement.{statement}
-use Rattle.framed.proofs.head.two_at.Tie as tie
+use Rattle.framed.proofs.two_at.Statement.{statement}
+use Rattle.framed.proofs.two_at.Tie as tie
 
 byte-at-requires : tie.Need-byte-at-requires
 byte-at-requires c κs = search needs
