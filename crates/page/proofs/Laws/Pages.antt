@@ -64,17 +64,17 @@ not-fewer x j k few also less =
     omega (arith, few .1, also .2 (omega (arith, few .0)), rises)
 
 -- a number has no second count of digits
-pub one-count : (x j k : ℕ) → Fewest 10 1 x j → Fewest 10 1 x k → j ≡ k
-one-count x j k few also = omega (arith, not-fewer x k j also few, not-fewer x j k few also)
+pub no-second-count : (x j k : ℕ) → Fewest 10 1 x j → Fewest 10 1 x k → j ≡ k
+no-second-count x j k few also = omega (arith, not-fewer x k j also few, not-fewer x j k few also)
 
 -- a text has no second page and no second end
-pub one-page : (page : List ℕ) (at : ℕ) (text : List ℕ) (end also : ℕ) (after other : List ℕ) → Put page at text end after → Put page at text also other
+pub no-second-page : (page : List ℕ) (at : ℕ) (text : List ℕ) (end also : ℕ) (after other : List ℕ) → Put page at text end after → Put page at text also other
     → (end ≡ also) × (after ≡ other)
-one-page page at text end also after other h k = (h .ends ∙ sym (k .ends), h .held ∙ sym (k .held))
+no-second-page page at text end also after other h k = (h .ends ∙ sym (k .ends), h .held ∙ sym (k .held))
 
 -- nor has a number
-pub one-spelling : (page : List ℕ) (at x end also : ℕ) (after other : List ℕ) → Spelled page at x end after → Spelled page at x also other
+pub no-second-spelling : (page : List ℕ) (at x end also : ℕ) (after other : List ℕ) → Spelled page at x end after → Spelled page at x also other
     → (end ≡ also) × (after ≡ other)
-one-spelling page at x end also after other h k =
-    let same = one-count x (h .count) (k .count) (h .fewest) (k .fewest) in
-    one-page page at (digits 10 (k .count) x) end also after other (rw same at (h .put)) (k .put)
+no-second-spelling page at x end also after other h k =
+    let same = no-second-count x (h .count) (k .count) (h .fewest) (k .fewest) in
+    no-second-page page at (digits 10 (k .count) x) end also after other (rw same at (h .put)) (k .put)
