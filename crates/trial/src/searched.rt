@@ -1,0 +1,109 @@
+// The lines of the searchers: the refusal, the total of places, the count of windows tried, and every entry of the lent list.
+use super::lines;
+use fit::Search;
+
+// A lent list has at most so many entries.
+const MOST_ROOM: usize = 200;
+
+// By which searcher.
+enum By {
+    Plain,
+    Packed,
+    Last,
+    Skip,
+    Maximal,
+}
+
+// A line for each searcher, each with a list of its own of so many entries.
+pub(crate) fn searches(
+    page: &mut [u8],
+    points: &[u8],
+    delta: u32,
+    gamma: u32,
+    recording: &[u8],
+    room: usize,
+) -> usize {
+    let at = with_list(page, 0, By::Plain, points, delta, gamma, recording, room);
+    let at = with_list(page, at, By::Packed, points, delta, gamma, recording, room);
+    let at = with_list(page, at, By::Last, points, delta, gamma, recording, room);
+    let at = with_list(page, at, By::Skip, points, delta, gamma, recording, room);
+    with_list(page, at, By::Maximal, points, delta, gamma, recording, room)
+}
+
+fn with_list(
+    page: &mut [u8],
+    at: usize,
+    by: By,
+    points: &[u8],
+    delta: u32,
+    gamma: u32,
+    recording: &[u8],
+    room: usize,
+) -> usize {
+    let mut list = [0u32; MOST_ROOM];
+    if MOST_ROOM < room {
+        return at;
+    }
+    line(
+        page,
+        at,
+        by,
+        points,
+        delta,
+        gamma,
+        recording,
+        &mut list[..room],
+    )
+}
+
+// The searcher's name, what it answers, and the list, whose entries are marked before the search.
+fn line(
+    page: &mut [u8],
+    at: usize,
+    by: By,
+    points: &[u8],
+    delta: u32,
+    gamma: u32,
+    recording: &[u8],
+    list: &mut [u32],
+) -> usize {
+    lines::mark(list);
+    let found = search(by, points, delta, gamma, recording, list);
+    let named = name(page, at, by);
+    let counted = counts(page, named, found);
+    let listed = lines::entries(page, counted, list);
+    page::put_text(page, listed, b"\n")
+}
+
+fn name(page: &mut [u8], at: usize, by: By) -> usize {
+    match by {
+        By::Plain => page::put_text(page, at, b"plain"),
+        By::Packed => page::put_text(page, at, b"packed"),
+        By::Last => page::put_text(page, at, b"last"),
+        By::Skip => page::put_text(page, at, b"skip"),
+        By::Maximal => page::put_text(page, at, b"maximal"),
+    }
+}
+
+fn counts(page: &mut [u8], at: usize, found: Search) -> usize {
+    let refused = lines::spaced(page, at, found.refusal as u64);
+    let counted = lines::spaced(page, refused, found.total as u64);
+    lines::spaced(page, counted, found.tried as u64)
+}
+
+fn search(
+    by: By,
+    points: &[u8],
+    delta: u32,
+    gamma: u32,
+    recording: &[u8],
+    list: &mut [u32],
+) -> Search {
+    match by {
+        By::Plain => plain::search(points, delta, gamma, recording, list),
+        By::Packed => packed::search(points, delta, gamma, recording, list),
+        By::Last => last::search(points, delta, gamma, recording, list),
+        By::Skip => skip::search(points, delta, gamma, recording, list),
+        By::Maximal => maximal::search(points, delta, gamma, recording, list),
+    }
+}

@@ -1,0 +1,431 @@
+//! Cases from a seed. The kinds take turns, so that even a short run has some of each.
+
+use crate::frames::{Case, MOST_ROOM};
+use crate::reference::{self, Profile};
+
+/// Numbers from a seed (splitmix64).
+struct Draw(u64);
+
+impl Draw {
+    fn next(&mut self) -> u64 {
+        self.0 = self.0.wrapping_add(0x9E37_79B9_7F4A_7C15);
+        let mut z = self.0;
+        z = (z ^ (z >> 30)).wrapping_mul(0xBF58_476D_1CE4_E5B9);
+        z = (z ^ (z >> 27)).wrapping_mul(0x94D0_49BB_1331_11EB);
+        z ^ (z >> 31)
+    }
+
+    /// A number from low to high, both included.
+    fn from(&mut self, low: u64, high: u64) -> u64 {
+        low + self.next() % (high - low + 1)
+    }
+
+    fn length(&mut self, low: usize, high: usize) -> usize {
+        self.from(low as u64, high as u64) as usize
+    }
+
+    fn number(&mut self, low: u32, high: u32) -> u32 {
+        self.from(low as u64, high as u64) as u32
+    }
+
+    fn one_of<T: Copy>(&mut self, choices: &[T]) -> T {
+        choices[self.length(0, choices.len() - 1)]
+    }
+
+    fn readings(&mut self, count: usize, alphabet: &[u8]) -> Vec<u8> {
+        (0..count).map(|_| self.one_of(alphabet)).collect()
+    }
+}
+
+const ANY: [u8; 256] = {
+    let mut all = [0; 256];
+    let mut a = 0;
+    while a < 256 {
+        all[a] = a as u8;
+        a += 1;
+    }
+    all
+};
+/// Both ends of the readings, where differences cannot go either way.
+const ENDS: [u8; 8] = [0, 1, 2, 3, 252, 253, 254, 255];
+
+/// A profile and a recording; the length of the lent list is drawn afterwards.
+type Made = (Profile, Vec<u8>);
+
+const KINDS: [fn(&mut Draw) -> Made; 14] = [
+    few_readings,
+    ends_of_the_readings,
+    sums_about_gamma,
+    sums_about_gamma,
+    one_point,
+    sixty_four_points,
+    no_room_for_a_window,
+    constant_recording,
+    packed_at_its_limit,
+    tolerances_of_any_size,
+    smooth_recording,
+    repeating_profile,
+    no_tolerance,
+    refused,
+];
+
+/// One case in so many is long: refused for its length, or as long as is accepted.
+const LONG_EVERY: usize = 400;
+
+pub fn cases(count: usize, seed: u64) -> impl Iterator<Item = Case> {
+    let sheet = sheet();
+    let mut draw = Draw(seed);
+    (0..count).map(move |number| {
+        let (profile, recording) = if number < sheet.len() {
+            sheet[number].clone()
+        } else if number % LONG_EVERY == LONG_EVERY - 1 {
+            long_recording(&mut draw, number / LONG_EVERY)
+        } else {
+            KINDS[number % KINDS.len()](&mut draw)
+        };
+        let room = room(&mut draw, &profile, &recording);
+        Case { profile, recording, room }
+    })
+}
+
+/// The sheet of examples, E1 to E8, E10, E12 and E13; E9 and E11 ask nothing further of a program. They come first.
+fn sheet() -> Vec<Made> {
+    let p = || vec![40, 42, 44];
+    let l = || vec![40, 42, 44, 41, 43, 45, 39, 42, 43, 70, 41, 41, 43, 40];
+    vec![
+        (profile(p(), 1, 2), vec![]),
+        (profile(vec![1], 254, 254), vec![255]),
+        (profile(vec![1], 253, 254), vec![255]),
+        (profile(p(), 1, 2), l()),
+        (profile(p(), 1, 3), l()),
+        (profile(p(), 1, 1), l()),
+        (profile(p(), 9, 2), l()),
+        (profile(vec![7, 7], 0, 0), vec![7, 7, 7]),
+        (profile(vec![9; 16], 1, 7), vec![9; 20]),
+        (profile(vec![9; 16], 1, 8), vec![9; 20]),
+        (profile(vec![6, 5], 1, 2), vec![6, 7, 5]),
+        (profile(vec![255, 254], 1, 2), vec![255, 253, 254]),
+    ]
+}
+
+/// A list with no room, too little room, just enough, more than enough.
+fn room(draw: &mut Draw, profile: &Profile, recording: &[u8]) -> usize {
+    let refused = reference::refusal_of_profile(profile) != 0;
+    let total = if refused { 0 } else { reference::places(profile, recording).len() };
+    let some = draw.length(0, 12);
+    let choice = draw.one_of(&[0, total.saturating_sub(1), total / 2, total, total + 1, total + some, some]);
+    choice.min(MOST_ROOM)
+}
+
+fn profile(points: Vec<u8>, delta: u32, gamma: u32) -> Profile {
+    Profile { points, delta, gamma }
+}
+
+/// A few different readings close to each other: many places, and many that only just fail.
+fn few_readings(draw: &mut Draw) -> Made {
+    let (low, many) = (draw.number(0, 240), draw.number(2, 6));
+    let step = draw.one_of(&[1, 1, 1, 2, 3]);
+    let alphabet: Vec<u8> = (0..many).map(|k| (low + k * step).min(255) as u8).collect();
+    let m = draw.length(1, 9);
+    let n = draw.length(0, 60);
+    let delta = draw.number(0, many);
+    let gamma = draw.number(0, delta * m as u32 + 2);
+    (profile(draw.readings(m, &alphabet), delta, gamma), draw.readings(n, &alphabet))
+}
+
+fn ends_of_the_readings(draw: &mut Draw) -> Made {
+    let alphabet = draw.one_of(&[&ENDS[..], &ENDS[..4], &ENDS[4..], &[0, 255], &[253, 255]]);
+    let m = draw.length(1, 8);
+    let n = draw.length(0, 50);
+    let delta = draw.one_of(&[0, 1, 1, 2, 3, 127, 128, 251, 252, 253, 254, 255]);
+    let gamma = draw.one_of(&[0, 1, delta, delta + 1, 2 * delta, m as u32 * delta, 16_320]);
+    (profile(draw.readings(m, alphabet), delta, gamma), draw.readings(n, alphabet))
+}
+
+/// A window about the points with differences of at most delta, as far as they can go, that sum to the number asked for.
+fn window_of_sum(draw: &mut Draw, points: &[u8], delta: u32, sum: u32) -> Vec<u8> {
+    let mut differences = vec![0u32; points.len()];
+    let up: Vec<bool> = points.iter().map(|_| draw.from(0, 1) == 1).collect();
+    for _ in 0..sum {
+        let free: Vec<usize> = (0..points.len())
+            .filter(|&i| {
+                let ends = if up[i] { 255 - points[i] } else { points[i] };
+                differences[i] < delta && differences[i] < ends as u32
+            })
+            .collect();
+        if free.is_empty() {
+            break;
+        }
+        differences[draw.one_of(&free)] += 1;
+    }
+    (0..points.len()).map(|i| if up[i] { points[i] + differences[i] as u8 } else { points[i] - differences[i] as u8 }).collect()
+}
+
+/// Windows whose sums are gamma - 1, gamma and gamma + 1, or that have one difference of delta + 1; often one at the very end.
+fn sums_about_gamma(draw: &mut Draw) -> Made {
+    let m = draw.length(1, 12);
+    let delta = draw.number(1, 9);
+    let gamma = draw.number(1, delta * m as u32);
+    let (low, high) = draw.one_of(&[(20, 235), (60, 70), (100, 130)]);
+    let alphabet: Vec<u8> = (low..=high).collect();
+    let points = draw.readings(m, &alphabet);
+    let mut recording = Vec::new();
+    for _ in 0..draw.from(1, 4) {
+        let gap = draw.length(0, m);
+        recording.extend(draw.readings(gap, &alphabet));
+        let sum = gamma - 1 + draw.number(0, 2);
+        let mut window = window_of_sum(draw, &points, delta, sum);
+        if draw.from(0, 4) == 0 {
+            let i = draw.length(0, m - 1);
+            window[i] = if draw.from(0, 1) == 0 { points[i] + delta as u8 + 1 } else { points[i] - delta as u8 - 1 };
+        }
+        recording.extend(window);
+    }
+    if draw.from(0, 1) == 0 {
+        let gap = draw.length(1, 3);
+        recording.extend(draw.readings(gap, &alphabet));
+    }
+    (profile(points, delta, gamma), recording)
+}
+
+fn one_point(draw: &mut Draw) -> Made {
+    let alphabet = draw.one_of(&[&ANY[..], &ANY[..4], &ANY[250..], &ENDS[..]]);
+    let delta = draw.one_of(&[0, 1, 2, 100, 254, 255]);
+    let gamma = draw.one_of(&[0, 1, 2, delta, delta + 1, 254, 255, 16_320]);
+    let n = draw.length(0, 40);
+    (profile(draw.readings(1, alphabet), delta, gamma), draw.readings(n, alphabet))
+}
+
+fn sixty_four_points(draw: &mut Draw) -> Made {
+    let alphabet = draw.one_of(&[&ANY[..], &ANY[..2], &ANY[250..], &ANY[40..44], &[7]]);
+    let points = draw.readings(64, alphabet);
+    let delta = draw.one_of(&[0, 0, 1, 3, 60, 255]);
+    let gamma = draw.one_of(&[0, 0, 1, 20, 64, 64 * delta, 16_320]);
+    let mut recording = Vec::new();
+    while recording.len() < 130 {
+        if draw.from(0, 1) == 0 {
+            let sum = draw.one_of(&[0, gamma, gamma + 1]).min(2_000);
+            recording.extend(window_of_sum(draw, &points, delta, sum));
+        } else {
+            let gap = draw.length(1, 70);
+            recording.extend(draw.readings(gap, alphabet));
+        }
+    }
+    (profile(points, delta, gamma), recording)
+}
+
+/// An empty recording, one that is too short by one, one that is as long as the profile.
+fn no_room_for_a_window(draw: &mut Draw) -> Made {
+    let m = draw.one_of(&[1, 2, 3, 5, 16, 63, 64]);
+    let n = draw.one_of(&[0, 0, m - 1, m - 1, m, m, m + 1, m / 2]);
+    let delta = draw.number(0, 3);
+    let gamma = draw.number(0, 2 * m as u32);
+    (profile(draw.readings(m, &ANY[30..34]), delta, gamma), draw.readings(n, &ANY[30..34]))
+}
+
+fn constant_recording(draw: &mut Draw) -> Made {
+    let reading = draw.one_of(&[0, 1, 77, 128, 254, 255]);
+    let m = draw.one_of(&[1, 2, 3, 7, 8, 20]);
+    let close: Vec<u8> = (reading.max(2) - 2..=reading.min(253) + 2).collect();
+    let points = if draw.from(0, 1) == 0 { vec![reading; m] } else { draw.readings(m, &close) };
+    let delta = draw.number(0, 3);
+    let gamma = draw.number(0, m as u32 * 2);
+    let n = draw.length(0, 60);
+    (profile(points, delta, gamma), vec![reading; n])
+}
+
+/// All counters together take 64 bits exactly, or a little less, or a little more.
+fn packed_at_its_limit(draw: &mut Draw) -> Made {
+    let b = draw.number(0, 10);
+    let least = 64 / (b as usize + 1);
+    let m = (least + draw.length(0, 1)).min(64);
+    let (low, high): (u32, u32) = if b == 0 { (0, 0) } else { (1 << (b - 1), (1 << b) - 1) };
+    let g = draw.one_of(&[low, high, high, low.max(1) - 1, high + 1]);
+    let just = g.div_ceil(m as u32);
+    let delta = draw.one_of(&[just, just, just + 1, 255]).min(255);
+    let alphabet: Vec<u8> = (100..=110).collect();
+    let points = draw.readings(m, &alphabet);
+    let mut recording = Vec::new();
+    for _ in 0..3 {
+        let gap = draw.length(0, 6);
+        recording.extend(draw.readings(gap, &alphabet));
+        let sum = (g + draw.number(0, 2)).max(1) - 1;
+        recording.extend(window_of_sum(draw, &points, delta, sum));
+    }
+    (profile(points, delta, g), recording)
+}
+
+fn tolerances_of_any_size(draw: &mut Draw) -> Made {
+    let m = draw.length(1, 30);
+    let delta = draw.number(0, 255);
+    let most = draw.one_of(&[delta, m as u32 * delta, 16_320]);
+    let gamma = draw.number(0, most);
+    let n = draw.length(0, 80);
+    (profile(draw.readings(m, &ANY), delta, gamma), draw.readings(n, &ANY))
+}
+
+/// As a stocking is: each reading close to the one before it; the profile is a part of it, changed a little.
+fn smooth_recording(draw: &mut Draw) -> Made {
+    let n = draw.length(20, 100);
+    let mut reading = draw.number(0, 255) as i64;
+    let mut recording = Vec::new();
+    for _ in 0..n {
+        reading = (reading + draw.from(0, 6) as i64 - 3).clamp(0, 255);
+        recording.push(reading as u8);
+    }
+    let m = draw.length(1, 20);
+    let at = draw.one_of(&[0, n - m, (n - m) / 2]);
+    let delta = draw.number(0, 8);
+    let sum = draw.number(0, m as u32 * 2);
+    let points = window_of_sum(draw, &recording[at..at + m], delta, sum);
+    let gamma = (sum + draw.number(0, 2)).max(1) - 1;
+    (profile(points, delta, gamma), recording)
+}
+
+/// A profile that is close to a shift of itself, so that full and mismatch jumps are of every size; the recording repeats too.
+fn repeating_profile(draw: &mut Draw) -> Made {
+    let low = draw.one_of(&[0, 0, 90, 250]);
+    let alphabet: Vec<u8> = (low..=low + 5).collect();
+    let period = draw.length(1, 6);
+    let unit = draw.readings(period, &alphabet);
+    let m = draw.length(1, 24);
+    let mut points: Vec<u8> = unit.iter().copied().cycle().take(m).collect();
+    for _ in 0..draw.from(0, 2) {
+        let i = draw.length(0, m - 1);
+        points[i] = draw.one_of(&alphabet);
+    }
+    let n = draw.length(0, 80);
+    let mut recording: Vec<u8> = unit.iter().copied().cycle().take(n).collect();
+    for _ in 0..n / 10 {
+        let s = draw.length(0, n - 1);
+        recording[s] = draw.one_of(&alphabet);
+    }
+    let delta = draw.number(0, 3);
+    let some = draw.number(0, 2 * m as u32);
+    let gamma = draw.one_of(&[m as u32 * delta, 16_320, some]);
+    (profile(points, delta, gamma), recording)
+}
+
+/// delta 0, gamma 0, or both; and the two far apart, so that d and g differ from delta and gamma.
+fn no_tolerance(draw: &mut Draw) -> Made {
+    let (delta, gamma) = draw.one_of(&[(0, 0), (0, 0), (0, 50), (5, 0), (255, 1), (255, 2), (1, 16_320), (0, 16_320), (255, 0)]);
+    let alphabet = draw.one_of(&[&ANY[7..9], &ANY[..2], &ANY[254..], &ANY[100..104]]);
+    let m = draw.length(1, 7);
+    let n = draw.length(0, 60);
+    (profile(draw.readings(m, alphabet), delta, gamma), draw.readings(n, alphabet))
+}
+
+const BAD_M: [usize; 6] = [0, 0, 65, 66, 128, 300];
+const BAD_DELTA: [u32; 5] = [256, 256, 257, 70_000, u32::MAX];
+const BAD_GAMMA: [u32; 5] = [16_321, 16_321, 16_322, 1 << 31, u32::MAX];
+
+/// Refusals 1, 2 and 4, alone and together, and the values next to them that are accepted.
+fn refused(draw: &mut Draw) -> Made {
+    let m = if draw.from(0, 2) == 0 { draw.one_of(&BAD_M) } else { draw.one_of(&[1, 3, 64]) };
+    let (delta, gamma) = match draw.from(0, 4) {
+        0 => (draw.one_of(&BAD_DELTA), draw.number(0, 16_320)),
+        1 => (draw.number(0, 255), draw.one_of(&BAD_GAMMA)),
+        2 => (draw.one_of(&BAD_DELTA), draw.one_of(&BAD_GAMMA)),
+        3 => (255, 16_320),
+        _ => (draw.number(0, 255), draw.number(0, 16_320)),
+    };
+    let n = draw.length(0, 80);
+    (profile(draw.readings(m, &ANY), delta, gamma), draw.readings(n, &ANY))
+}
+
+/// A recording that is too long by one, alone and with each other refusal, and one that is not.
+fn long_recording(draw: &mut Draw, turn: usize) -> Made {
+    let (m, delta, gamma, n) = [
+        (3, 1, 2, 1_000_001),
+        (9, 3, 10, 1_000_000),
+        (64, 255, 16_320, 1_000_001),
+        (0, 1, 2, 1_000_001),
+        (3, 256, 16_321, 1_000_001),
+    ][turn % 5];
+    let alphabet = &ANY[40..50];
+    (profile(draw.readings(m, alphabet), delta, gamma), draw.readings(n, alphabet))
+}
+
+#[cfg(test)]
+mod coverage {
+    use super::*;
+    use crate::frames;
+    use crate::reference::{counter_width, places, refusal_of_profile, refusal_of_search, Searcher};
+
+    /// The case's sums of differences at windows whose differences are all at most delta.
+    fn near_sums(case: &Case) -> Vec<u32> {
+        let points = &case.profile.points;
+        case.recording
+            .windows(points.len().max(1))
+            .map(|window| window.iter().zip(points).map(|(y, x)| y.abs_diff(*x) as u32).collect::<Vec<u32>>())
+            .filter(|differences| differences.iter().all(|&difference| difference <= case.profile.delta))
+            .map(|differences| differences.iter().sum())
+            .collect()
+    }
+
+    /// What the default run must contain: each line is a situation, and at least so many cases must be in it.
+    #[test]
+    fn the_default_run_has_every_situation() {
+        let mut met = std::collections::BTreeMap::new();
+        for case in cases(2_000, 1) {
+            let (m, n) = (case.profile.points.len(), case.recording.len());
+            let (delta, gamma) = (case.profile.delta, case.profile.gamma);
+            let accepted = refusal_of_profile(&case.profile) == 0;
+            let mut meets = |situation: &'static str, yes: bool| *met.entry(situation).or_insert(0) += yes as usize;
+            for (refusal, name) in [(1, "refusal 1"), (2, "refusal 2"), (3, "refusal 3"), (4, "refusal 4")] {
+                meets(name, refusal_of_search(Searcher::Packed, &case.profile, &case.recording) == refusal);
+            }
+            meets("two refusals", (m == 0 || m > 64) && (delta > 255 || gamma > 16_320));
+            meets("delta greatest", delta == u32::MAX);
+            meets("gamma just too great", gamma == 16_321);
+            meets("m is 0", m == 0);
+            meets("m is 65", m == 65);
+            meets("n is the greatest", n == 1_000_000);
+            if !accepted || n > 1_000_000 {
+                continue;
+            }
+            let found = places(&case.profile, &case.recording);
+            let sums = near_sums(&case);
+            let bits = m as i64 * counter_width(case.profile.g());
+            meets("m is 1", m == 1);
+            meets("m is 64", m == 64);
+            meets("n is 0", n == 0);
+            meets("n is m - 1", n + 1 == m);
+            meets("n is m", n == m);
+            meets("no list", case.room == 0 && !found.is_empty());
+            meets("list too short", case.room > 0 && case.room < found.len());
+            meets("list just long enough", case.room > 0 && case.room == found.len());
+            meets("list longer", !found.is_empty() && case.room > found.len());
+            meets("list longer, no place", found.is_empty() && case.room > 0);
+            meets("place at the end", n > m && found.last() == Some(&((n - m) as i64)));
+            meets("sum gamma - 1", sums.contains(&gamma.wrapping_sub(1)));
+            meets("sum gamma", gamma > 0 && sums.contains(&gamma));
+            meets("sum gamma + 1", sums.contains(&(gamma + 1)));
+            meets("delta 0", delta == 0);
+            meets("gamma 0", gamma == 0);
+            meets("delta above gamma", delta > gamma);
+            meets("gamma above m times delta", gamma as u64 > m as u64 * delta as u64);
+            meets("64 bits", bits == 64);
+            meets("65 to 72 bits", bits > 64 && bits <= 72);
+            meets("64 counters of one bit", m == 64 && bits == 64);
+            meets("constant", n > 0 && case.recording.iter().all(|&y| y == case.recording[0]));
+            meets("reading 0", case.recording.contains(&0));
+            meets("reading 255", case.recording.contains(&255));
+        }
+        for (situation, count) in met {
+            println!("{count:5} {situation}");
+            // long recordings are few, since they take most of the time
+            let least = if ["refusal 3", "n is the greatest"].contains(&situation) { 1 } else { 3 };
+            assert!(count >= least, "{situation}: {count}");
+        }
+    }
+
+    #[test]
+    fn frames_are_read_back() {
+        let mut bytes = Vec::new();
+        let made: Vec<Case> = cases(100, 5).collect();
+        made.iter().for_each(|case| frames::write_frame(case, &mut bytes).unwrap());
+        let read = frames::read_frames(&mut &bytes[..]).unwrap();
+        assert_eq!(made.iter().map(frames::describe).collect::<Vec<_>>(), read.iter().map(frames::describe).collect::<Vec<_>>());
+    }
+}

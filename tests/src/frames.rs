@@ -1,0 +1,107 @@
+//! How a case is handed to the program, and what the program must print for it.
+//!
+//! A frame: delta and gamma in 4 bytes each, m in 2, n in 4, room in 2, all high byte first; then m points, then n readings.
+//! Frames follow each other to the end of the input. A case has ten lines of output, so that line 10k + j belongs to case k.
+
+use crate::reference::{self, Jump, Profile, SEARCHERS};
+use std::io::{self, Read, Write};
+
+/// The program takes frames up to these sizes.
+pub const MOST_POINTS: usize = 300;
+pub const MOST_READINGS: usize = 1_000_001;
+pub const MOST_ROOM: usize = 200;
+
+/// Before each search, entry k of the lent list is this and k, so that an untouched entry shows.
+pub const UNTOUCHED: u32 = 1_000_000_000;
+
+pub const LINES: usize = 10;
+
+pub struct Case {
+    pub profile: Profile,
+    pub recording: Vec<u8>,
+    pub room: usize,
+}
+
+pub fn write_frame(case: &Case, out: &mut impl Write) -> io::Result<()> {
+    assert!(case.profile.points.len() <= MOST_POINTS && case.recording.len() <= MOST_READINGS && case.room <= MOST_ROOM);
+    out.write_all(&case.profile.delta.to_be_bytes())?;
+    out.write_all(&case.profile.gamma.to_be_bytes())?;
+    out.write_all(&(case.profile.points.len() as u16).to_be_bytes())?;
+    out.write_all(&(case.recording.len() as u32).to_be_bytes())?;
+    out.write_all(&(case.room as u16).to_be_bytes())?;
+    out.write_all(&case.profile.points)?;
+    out.write_all(&case.recording)
+}
+
+/// All frames of an input; panics where the input is cut short.
+pub fn read_frames(input: &mut impl Read) -> io::Result<Vec<Case>> {
+    let mut bytes = Vec::new();
+    input.read_to_end(&mut bytes)?;
+    let mut at = 0;
+    let mut take = |count: usize| {
+        at += count;
+        bytes[at - count..at].to_vec()
+    };
+    let number = |bytes: Vec<u8>| bytes.iter().fold(0u32, |high, &low| high * 256 + low as u32);
+    let mut cases = Vec::new();
+    let mut left = bytes.len();
+    while left > 0 {
+        let (delta, gamma) = (number(take(4)), number(take(4)));
+        let (m, n, room) = (number(take(2)) as usize, number(take(4)) as usize, number(take(2)) as usize);
+        let profile = Profile { points: take(m), delta, gamma };
+        cases.push(Case { profile, recording: take(n), room });
+        left -= 16 + m + n;
+    }
+    Ok(cases)
+}
+
+/// The ten lines that the program must print.
+pub fn answers(case: &Case) -> Vec<String> {
+    let profile = &case.profile;
+    let mut lines = Vec::new();
+    for (searcher, name) in SEARCHERS {
+        let mut list: Vec<u32> = (0..case.room as u32).map(|k| UNTOUCHED + k).collect();
+        let search = reference::search(searcher, profile, &case.recording, &mut list);
+        let mut line = format!("{name} {} {} {}", search.refusal, search.total, search.tried);
+        for entry in list {
+            line += &format!(" {entry}");
+        }
+        lines.push(line);
+    }
+    let greatest_number = profile.m().min(64) + 1;
+    lines.push(pairs("last_reading", (0..=255).map(|a| reference::last_reading(profile, a)).collect()));
+    lines.push(pairs("next_reading", (0..=255).map(|a| reference::next_reading(profile, a)).collect()));
+    lines.push(pairs("after_check", vec![reference::after_check(profile)]));
+    lines.push(pairs("full", vec![reference::full(profile)]));
+    lines.push(pairs("mismatch", reference::mismatches(profile, 0..=greatest_number)));
+    assert_eq!(lines.len(), LINES);
+    lines
+}
+
+fn pairs(name: &str, jumps: Vec<Jump>) -> String {
+    let mut line = name.to_string();
+    for jump in jumps {
+        line += &format!(" {} {}", jump.refusal, jump.jump);
+    }
+    line
+}
+
+/// A case as a person reads it.
+pub fn describe(case: &Case) -> String {
+    let shown = &case.recording[..case.recording.len().min(300)];
+    let cut = if shown.len() < case.recording.len() { " .." } else { "" };
+    format!(
+        "  delta {}, gamma {}, room {}\n  {} points: {}\n  {} readings: {}{cut}",
+        case.profile.delta,
+        case.profile.gamma,
+        case.room,
+        case.profile.points.len(),
+        spaced(&case.profile.points),
+        case.recording.len(),
+        spaced(shown),
+    )
+}
+
+fn spaced(readings: &[u8]) -> String {
+    readings.iter().map(u8::to_string).collect::<Vec<_>>().join(" ")
+}
