@@ -1,0 +1,146 @@
+// The boundary to C and Rust: one function for each searcher and each question, one call deep, with the contract of what it calls.
+// include/jilbaroof.h declares these functions for C, rust/jilbaroof.rs wraps them for Rust.
+use fit::Search;
+use questions::Jump;
+ghost use mathlib.Core.Path.{_≡_};
+ghost use Prim.Native.Nat.{_-_};
+ghost use lib.ListN.{length};
+ghost use Rattle.fit.specs.Place.{fitOf, dOf, windows};
+ghost use Rattle.fit.specs.Refusal.{askedOf};
+ghost use Rattle.fit.specs.Answer.{lent, Answers};
+ghost use Rattle.packed.specs.Fourth.{PackedAnswers};
+ghost use Rattle.last.specs.Walk.{lastWalk};
+ghost use Rattle.skip.specs.Walk.{skipWalk};
+ghost use Rattle.maximal.specs.Walk.{maximalWalk};
+ghost use Rattle.jumps.specs.Jumps.{lastJump, nextJump, afterJump, mismatchJump, fullJump};
+ghost use Rattle.questions.specs.Asking.{jumpAnswer, mismatchAskedOf};
+
+// plain: every window is tried.
+#[no_mangle]
+pub extern "C" fn jilbaroof_plain(
+    points: &[u8],
+    delta: u32,
+    gamma: u32,
+    recording: &[u8],
+    list: &mut [u32],
+) -> Search
+    ensures { λ r. ⌜
+        Answers delta gamma (now (points .entry)) (now (recording .entry))
+        (windows (length (now (points .entry))) (length (now (recording .entry))))
+        (lent (now (list .entry))) r (lent (now (list .exit))) ⌝ }
+{
+    plain::search(points, delta, gamma, recording, list)
+}
+
+// packed: a counter for each point, side by side in one word; refusal 4 where they do not fit.
+#[no_mangle]
+pub extern "C" fn jilbaroof_packed(
+    points: &[u8],
+    delta: u32,
+    gamma: u32,
+    recording: &[u8],
+    list: &mut [u32],
+) -> Search
+    ensures { λ r. ⌜
+        PackedAnswers delta gamma (now (points .entry)) (now (recording .entry)) (lent (now (list .entry))) r
+        (lent (now (list .exit))) ⌝ }
+{
+    packed::search(points, delta, gamma, recording, list)
+}
+
+// last: a window's last reading says how far to jump.
+#[no_mangle]
+pub extern "C" fn jilbaroof_last(
+    points: &[u8],
+    delta: u32,
+    gamma: u32,
+    recording: &[u8],
+    list: &mut [u32],
+) -> Search
+    ensures { λ r. ⌜
+        Answers delta gamma (now (points .entry)) (now (recording .entry))
+        (length (lastWalk (fitOf (dOf delta gamma) (now (points .entry))) (length (now (points .entry)))
+        (afterJump (dOf delta gamma) (now (points .entry))) (now (recording .entry))))
+        (lent (now (list .entry))) r (lent (now (list .exit))) ⌝ }
+{
+    last::search(points, delta, gamma, recording, list)
+}
+
+// skip: every m-th reading is probed.
+#[no_mangle]
+pub extern "C" fn jilbaroof_skip(
+    points: &[u8],
+    delta: u32,
+    gamma: u32,
+    recording: &[u8],
+    list: &mut [u32],
+) -> Search
+    ensures { λ r. ⌜
+        Answers delta gamma (now (points .entry)) (now (recording .entry))
+        (length (skipWalk (fitOf (dOf delta gamma) (now (points .entry))) (length (now (points .entry))) (now (recording .entry))))
+        (lent (now (list .entry))) r (lent (now (list .exit))) ⌝ }
+{
+    skip::search(points, delta, gamma, recording, list)
+}
+
+// maximal: the larger of the next-reading jump and the mismatch jump is taken.
+#[no_mangle]
+pub extern "C" fn jilbaroof_maximal(
+    points: &[u8],
+    delta: u32,
+    gamma: u32,
+    recording: &[u8],
+    list: &mut [u32],
+) -> Search
+    ensures { λ r. ⌜
+        Answers delta gamma (now (points .entry)) (now (recording .entry))
+        (length (maximalWalk (dOf delta gamma) (now (points .entry)) (now (recording .entry))))
+        (lent (now (list .entry))) r (lent (now (list .exit))) ⌝ }
+{
+    maximal::search(points, delta, gamma, recording, list)
+}
+
+// The last-reading jump for reading a.
+#[no_mangle]
+pub extern "C" fn jilbaroof_last_reading(points: &[u8], delta: u32, gamma: u32, a: u8) -> Jump
+    ensures { λ r. ⌜
+        r ≡ jumpAnswer (askedOf delta gamma (now (points .entry)))
+        (lastJump (fitOf (dOf delta gamma) (now (points .entry))) (length (now (points .entry))) a) ⌝ }
+{
+    questions::last_reading(points, delta, gamma, a)
+}
+
+// The next-reading jump for reading a.
+#[no_mangle]
+pub extern "C" fn jilbaroof_next_reading(points: &[u8], delta: u32, gamma: u32, a: u8) -> Jump
+    ensures { λ r. ⌜
+        r ≡ jumpAnswer (askedOf delta gamma (now (points .entry)))
+        (nextJump (fitOf (dOf delta gamma) (now (points .entry))) (length (now (points .entry))) a) ⌝ }
+{
+    questions::next_reading(points, delta, gamma, a)
+}
+
+// The after-check jump.
+#[no_mangle]
+pub extern "C" fn jilbaroof_after_check(points: &[u8], delta: u32, gamma: u32) -> Jump
+    ensures { λ r. ⌜ r ≡ jumpAnswer (askedOf delta gamma (now (points .entry))) (afterJump (dOf delta gamma) (now (points .entry))) ⌝ }
+{
+    questions::after_check(points, delta, gamma)
+}
+
+// The full jump.
+#[no_mangle]
+pub extern "C" fn jilbaroof_full(points: &[u8], delta: u32, gamma: u32) -> Jump
+    ensures { λ r. ⌜ r ≡ jumpAnswer (askedOf delta gamma (now (points .entry))) (fullJump (dOf delta gamma) (now (points .entry))) ⌝ }
+{
+    questions::full(points, delta, gamma)
+}
+
+// The mismatch jump at point number p, from 1 to m.
+#[no_mangle]
+pub extern "C" fn jilbaroof_mismatch(points: &[u8], delta: u32, gamma: u32, p: usize) -> Jump
+    ensures { λ r. ⌜
+        r ≡ jumpAnswer (mismatchAskedOf delta gamma (now (points .entry)) p) (mismatchJump (dOf delta gamma) (now (points .entry)) (p - 1)) ⌝ }
+{
+    questions::mismatch(points, delta, gamma, p)
+}

@@ -1,0 +1,92 @@
+/* Jilbaroof for C: find a pressure profile in a recording, and ask how far a search may jump.
+ *
+ * A reading is a byte. A profile is 1 to 64 readings, called points; a recording is up to 1,000,000 readings. The window at s is the
+ * m readings from position s on, for a profile of m points. s is a place when every difference between a point and its reading is at
+ * most delta, and the sum of the m differences at most gamma. Positions and places count from 0.
+ *
+ * Who checks what. The library checks every value: it takes any points, any recording, any delta and gamma, any reading and any point
+ * number, and answers or refuses by a number (below); nothing a caller can pass as a value makes it fail, and it keeps nothing after
+ * it returns. What it answers is proved, for every input. The caller answers for the memory, which the library cannot check:
+ *   - a pointer and the length behind it name that many entries, of a recording or profile to be read, of a list to be written;
+ *   - the list shares no memory with the points or the recording, and nothing else writes any of them during the call.
+ * A length of 0 is allowed everywhere; nothing is then read or written through its pointer.
+ * The functions have no state and may be called from several threads at once.
+ *
+ * Refusals: the lowest number that applies. A refused call has counts and jump 0 and leaves the list as it was.
+ *   0  accepted
+ *   1  the profile has no points, or more than 64
+ *   2  delta is above 255, or gamma above 16,320
+ *   3  the recording has more than 1,000,000 readings (searchers)
+ *   4  the counters do not fit one word: m times their width exceeds 64 (jilbaroof_packed)
+ *   6  the point number is 0 or above m (jilbaroof_mismatch)
+ * (5 belongs to the program `places` and is never given here.)
+ */
+#ifndef JILBAROOF_H
+#define JILBAROOF_H
+
+#include <stddef.h>
+#include <stdint.h>
+
+#ifdef __cplusplus
+extern "C" {
+#endif
+
+/* What a search answers. */
+typedef struct {
+    uint32_t refusal; /* 0, or why the search was refused */
+    size_t total;     /* how many places there are, listed or not */
+    size_t tried;     /* how many windows this searcher tried */
+} jilbaroof_search;
+
+/* What a question answers. */
+typedef struct {
+    uint32_t refusal; /* 0, or why the question was refused */
+    size_t jump;      /* the jump: from the window at s to the window at s + jump */
+} jilbaroof_jump;
+
+/* The five searchers. All find the same places: list receives the first of them in rising order, as many as fit, and keeps every other
+ * entry. They differ in which windows they try, and so in time and in `tried`. */
+
+/* Tries every window. */
+jilbaroof_search jilbaroof_plain(const uint8_t *points, size_t m, uint32_t delta, uint32_t gamma,
+                                 const uint8_t *recording, size_t n, uint32_t *list, size_t room);
+
+/* Keeps a counter for each point, side by side in one 64-bit word; its time does not depend on the readings. May refuse by 4. */
+jilbaroof_search jilbaroof_packed(const uint8_t *points, size_t m, uint32_t delta, uint32_t gamma,
+                                  const uint8_t *recording, size_t n, uint32_t *list, size_t room);
+
+/* Looks at the last reading of a window, and jumps. */
+jilbaroof_search jilbaroof_last(const uint8_t *points, size_t m, uint32_t delta, uint32_t gamma,
+                                const uint8_t *recording, size_t n, uint32_t *list, size_t room);
+
+/* Looks at every m-th reading, and tries the windows that put a near point there. */
+jilbaroof_search jilbaroof_skip(const uint8_t *points, size_t m, uint32_t delta, uint32_t gamma,
+                                const uint8_t *recording, size_t n, uint32_t *list, size_t room);
+
+/* Compares the points that promise long jumps first, and takes the larger of two jumps. */
+jilbaroof_search jilbaroof_maximal(const uint8_t *points, size_t m, uint32_t delta, uint32_t gamma,
+                                   const uint8_t *recording, size_t n, uint32_t *list, size_t room);
+
+/* The five questions: how far a search may go on from a window without passing a place, given what it has seen. Near means: differs by
+ * at most the smaller of delta and gamma. */
+
+/* The window's last reading is a. A jump of 0 says that this window must be tried. */
+jilbaroof_jump jilbaroof_last_reading(const uint8_t *points, size_t m, uint32_t delta, uint32_t gamma, uint8_t a);
+
+/* The reading directly after a window that was tried is a. */
+jilbaroof_jump jilbaroof_next_reading(const uint8_t *points, size_t m, uint32_t delta, uint32_t gamma, uint8_t a);
+
+/* The last reading of a window that was tried is near the last point. */
+jilbaroof_jump jilbaroof_after_check(const uint8_t *points, size_t m, uint32_t delta, uint32_t gamma);
+
+/* All points of the window were near. */
+jilbaroof_jump jilbaroof_full(const uint8_t *points, size_t m, uint32_t delta, uint32_t gamma);
+
+/* Point number p (1 to m) was not near, and all points that are compared before it were. */
+jilbaroof_jump jilbaroof_mismatch(const uint8_t *points, size_t m, uint32_t delta, uint32_t gamma, size_t p);
+
+#ifdef __cplusplus
+}
+#endif
+
+#endif

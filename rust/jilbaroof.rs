@@ -1,0 +1,129 @@
+//! Jilbaroof for Rust: a safe wrapper of the proved library, standard library only. Use it as a module (`mod jilbaroof;`) of a program
+//! that links libexports.a (tools/archive).
+//!
+//! Which side checks what. The library checks every value (points, tolerances, lengths, point numbers) and answers or refuses by a
+//! number; that each answer is the one its definition gives is proved. What it takes for granted is memory: that a slice is valid for its
+//! length, and that the lent list shares no memory with what is read. Rust's types guarantee just that, so nothing is checked here,
+//! and every function is safe for every argument. The calls below are the only `unsafe` code.
+
+/// What a search answers: the number of its refusal and zeros; or 0, the total of places and the count of windows tried.
+#[repr(C)]
+#[derive(Clone, Copy, Debug, PartialEq, Eq)]
+pub struct Search {
+    pub refusal: u32,
+    pub total: usize,
+    pub tried: usize,
+}
+
+/// What a question answers: the number of its refusal and 0; or 0 and the jump.
+#[repr(C)]
+#[derive(Clone, Copy, Debug, PartialEq, Eq)]
+pub struct Jump {
+    pub refusal: u32,
+    pub jump: usize,
+}
+
+/// The C side: a slice is its pointer, then its length. These lines repeat crates/exports/src/lib.rt, and nothing but the tests holds
+/// the two together.
+mod boundary {
+    use super::{Jump, Search};
+
+    macro_rules! searchers {
+        ($($name:ident)*) => {
+            unsafe extern "C" {
+                $(pub fn $name(
+                    points: *const u8,
+                    m: usize,
+                    delta: u32,
+                    gamma: u32,
+                    recording: *const u8,
+                    n: usize,
+                    list: *mut u32,
+                    room: usize,
+                ) -> Search;)*
+            }
+        };
+    }
+
+    searchers! { jilbaroof_plain jilbaroof_packed jilbaroof_last jilbaroof_skip jilbaroof_maximal }
+
+    unsafe extern "C" {
+        pub fn jilbaroof_last_reading(points: *const u8, m: usize, delta: u32, gamma: u32, a: u8) -> Jump;
+        pub fn jilbaroof_next_reading(points: *const u8, m: usize, delta: u32, gamma: u32, a: u8) -> Jump;
+        pub fn jilbaroof_after_check(points: *const u8, m: usize, delta: u32, gamma: u32) -> Jump;
+        pub fn jilbaroof_full(points: *const u8, m: usize, delta: u32, gamma: u32) -> Jump;
+        pub fn jilbaroof_mismatch(points: *const u8, m: usize, delta: u32, gamma: u32, p: usize) -> Jump;
+    }
+}
+
+/// A searcher: the points, delta, gamma, the recording, and the list that receives the first places, as many as fit, in rising order.
+/// Entries beyond those stay as they were, all of them where the search is refused.
+pub type Searcher = fn(&[u8], u32, u32, &[u8], &mut [u32]) -> Search;
+
+macro_rules! searcher {
+    ($(#[$doc:meta])* $name:ident, $there:ident) => {
+        $(#[$doc])*
+        pub fn $name(points: &[u8], delta: u32, gamma: u32, recording: &[u8], list: &mut [u32]) -> Search {
+            // SAFETY: the slices are valid for their lengths, the list is borrowed alone, and the library keeps none of them
+            unsafe {
+                boundary::$there(
+                    points.as_ptr(),
+                    points.len(),
+                    delta,
+                    gamma,
+                    recording.as_ptr(),
+                    recording.len(),
+                    list.as_mut_ptr(),
+                    list.len(),
+                )
+            }
+        }
+    };
+}
+
+searcher! {
+    /// Tries every window.
+    plain, jilbaroof_plain
+}
+searcher! {
+    /// Keeps a counter for each point in one word. Refused by 4 where m times the counter width exceeds 64.
+    packed, jilbaroof_packed
+}
+searcher! {
+    /// Looks at a window's last reading, and jumps.
+    last, jilbaroof_last
+}
+searcher! {
+    /// Looks at every m-th reading, and tries the windows that put a near point there.
+    skip, jilbaroof_skip
+}
+searcher! {
+    /// Takes the larger of the next-reading jump and the mismatch jump.
+    maximal, jilbaroof_maximal
+}
+
+/// The last-reading jump: the window's last reading is `a`; 0 says that the window must be tried.
+pub fn last_reading(points: &[u8], delta: u32, gamma: u32, a: u8) -> Jump {
+    // SAFETY: the slice is valid for its length and only read; so in each question below
+    unsafe { boundary::jilbaroof_last_reading(points.as_ptr(), points.len(), delta, gamma, a) }
+}
+
+/// The next-reading jump: the reading directly after a tried window is `a`.
+pub fn next_reading(points: &[u8], delta: u32, gamma: u32, a: u8) -> Jump {
+    unsafe { boundary::jilbaroof_next_reading(points.as_ptr(), points.len(), delta, gamma, a) }
+}
+
+/// The after-check jump: the last reading of a tried window is near the last point.
+pub fn after_check(points: &[u8], delta: u32, gamma: u32) -> Jump {
+    unsafe { boundary::jilbaroof_after_check(points.as_ptr(), points.len(), delta, gamma) }
+}
+
+/// The full jump: all points of the window were near.
+pub fn full(points: &[u8], delta: u32, gamma: u32) -> Jump {
+    unsafe { boundary::jilbaroof_full(points.as_ptr(), points.len(), delta, gamma) }
+}
+
+/// The mismatch jump at point number `p`, from 1 to m: it was not near, and the points compared before it were.
+pub fn mismatch(points: &[u8], delta: u32, gamma: u32, p: usize) -> Jump {
+    unsafe { boundary::jilbaroof_mismatch(points.as_ptr(), points.len(), delta, gamma, p) }
+}
