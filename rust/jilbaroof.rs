@@ -1,5 +1,4 @@
-//! Jilbaroof for Rust: a safe wrapper of the proved library, standard library only. Use it as a module (`mod jilbaroof;`) of a program
-//! that links libexports.a (tools/archive).
+//! Jilbaroof for Rust: a safe wrapper of the proved library, standard library only. tools/archive builds it, as the library `jilbaroof`.
 //!
 //! Which side checks what. The library checks every value (points, tolerances, lengths, point numbers) and answers or refuses by a
 //! number; that each answer is the one its definition gives is proved. What it takes for granted is memory: that a slice is valid for its

@@ -1,7 +1,4 @@
 //! Calls every function of rust/jilbaroof.rs, and holds the answers to the sheet of the specification.
-#[path = "../../rust/jilbaroof.rs"]
-mod jilbaroof;
-
 use jilbaroof::{Jump, Search, Searcher};
 
 const P: [u8; 3] = [40, 42, 44];
