@@ -3,7 +3,6 @@ use Prim.Native.Nat.{ℕ, zero, suc, _≤_}
 use mathlib.Core.Bool.{Bool, cond}
 use mathlib.Core.List.{List, [], _∷_, _++_}
 use lib.ListN.{length}
-use Rattle.fit.specs.Rule.{Rule, isPlaceBy}
 use Rattle.fit.specs.Place.{isPlace, windows}
 
 -- the numbers below k that pass a test, rising

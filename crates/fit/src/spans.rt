@@ -3,7 +3,7 @@ ghost use mathlib.Core.Path.{_≡_};
 ghost use Prim.Native.Nat.{_+_, _-_, _*_, _≤_, _<_};
 ghost use lib.ListN.{length};
 ghost use Rattle.fit.specs.Refusal.{maxPoints, maxDelta};
-ghost use Rattle.fit.specs.Rule.{Rule, nearBy};
+ghost use Rattle.fit.specs.Rule.{nearBy};
 ghost use Rattle.fit.specs.Spans.{spanFits, spanCost, ruleIn, spansOf};
 
 fn wide(a: u8) -> u16

@@ -1,7 +1,7 @@
 // The last searcher: it looks at a window's last reading, and jumps.
 use fit::Search;
 ghost use mathlib.Core.Path.{_≡_};
-ghost use Prim.Native.Nat.{_≤_, _<_};
+ghost use Prim.Native.Nat.{_<_};
 ghost use lib.ListN.{length};
 ghost use Rattle.fit.specs.Rule.{nearBy};
 ghost use Rattle.fit.specs.Place.{fitOf, dOf};

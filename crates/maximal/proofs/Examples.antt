@@ -1,6 +1,6 @@
 -- E4 of document 01: maximal tries 5 windows. Assumes nothing.
 use mathlib.Core.Path.{_≡_, refl}
-use mathlib.Core.List.{List, [], _∷_}
+use mathlib.Core.List.{[], _∷_}
 use Rattle.fit.specs.Reading.{near, alike}
 use Rattle.fit.specs.Place.{dOf}
 use Rattle.fit.specs.Walk.{walkBy, walk}

@@ -3,7 +3,6 @@
 mod scan;
 mod table;
 
-ghost use mathlib.Core.Path.{_≡_};
 ghost use Rattle.fit.specs.Answer.{lent};
 ghost use Rattle.packed.specs.Fourth.{PackedAnswers};
 

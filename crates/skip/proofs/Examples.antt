@@ -1,8 +1,6 @@
 -- E4 of document 01: skip tries 6 windows. Assumes nothing.
 use mathlib.Core.Path.{_≡_, refl}
-use mathlib.Core.List.{List, [], _∷_}
-use Prim.Native.Nat.{ℕ}
-use lib.ListN.{length}
+use mathlib.Core.List.{[], _∷_}
 use Rattle.fit.specs.Reading.{near}
 use Rattle.fit.specs.Place.{fitOf, dOf}
 use Rattle.skip.specs.Walk.{probed, probes, skipWalk}

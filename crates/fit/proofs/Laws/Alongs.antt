@@ -2,12 +2,11 @@
 use mathlib.Core.Path.{_≡_, refl, sym, ap, _∙_}
 use mathlib.Core.Bool.{Bool, true, false, cond}
 use mathlib.Core.List.{List, [], _∷_, _++_, append-assoc, append-nil, List·Memᴰ}
-use Prim.Native.Nat.{ℕ, zero, suc, _+_, _≤_, _<_}
+use Prim.Native.Nat.{ℕ, _+_, _≤_, _<_}
 use native.Mathlib.Omega.{arith}
-use lib.ListN.{length, set, length-set, length-append}
-use Rattle.fit.specs.Rule.{Rule, isPlaceBy}
+use lib.ListN.{length, length-set, length-append}
 use Rattle.fit.specs.Listing.{Rising, those}
-use Rattle.fit.specs.Answer.{Sought, soughtBy, all, Lent, laid, begun, tally, outcome, filled, Answer, noted, listed, Tried}
+use Rattle.fit.specs.Answer.{Sought, all, Lent, laid, begun, tally, outcome, filled, Answer, noted, listed, Tried}
 use Rattle.fit.specs.declared.answer.Search.{Search}
 use Rattle.fit.proofs.Laws.Listings.{overlay-none, overlay-more}
 use Rattle.fit.proofs.Laws.Risings.{finds-all}

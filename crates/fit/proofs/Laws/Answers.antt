@@ -8,7 +8,7 @@ use lib.ListN.{length, set}
 use Rattle.fit.specs.Rule.{Rule, isPlaceBy, SameRule}
 use Rattle.fit.specs.Place.{ruleOf, isPlace, windows}
 use Rattle.fit.specs.Refusal.{refusalOf, Accepted}
-use Rattle.fit.specs.Listing.{upTo, places, overlay}
+use Rattle.fit.specs.Listing.{places, overlay}
 use Rattle.fit.specs.Answer.{Sought, soughtBy, soughtOf, all, Lent, lent, begun, outcome, filled, Answer, Answers, noted, listed, Noted}
 use Rattle.fit.specs.declared.answer.Search.{Search}
 use Rattle.fit.proofs.Laws.Listings.{up-same}

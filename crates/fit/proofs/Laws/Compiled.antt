@@ -1,7 +1,7 @@
 -- Laws of spans: what the compiling loop lays, and that the numbers ask what the profile's rule asks. Assumes nothing.
 use mathlib.Core.Path.{_≡_, refl, sym, ap, _∙_}
-use mathlib.Core.Bool.{Bool, true, false, _&&_}
-use mathlib.Core.List.{List, [], _∷_, _++_, append-assoc, append-nil}
+use mathlib.Core.Bool.{true, _&&_}
+use mathlib.Core.List.{List, [], _∷_, _++_, append-assoc}
 use Prim.Native.Nat.{ℕ, zero, suc, _+_, _-_, _*_, _≤_, _<_, max}
 use native.Mathlib.Nat.{zero-add, add-zero, not-suc-le-zero, le-of-suc-le-suc}
 use native.Mathlib.Numerals.{add-one}
@@ -10,11 +10,11 @@ use lib.ListN.{length, take, set, getD, replicate, length-append, length-replica
 use lib.Seq.{take-suc, length-take-le, getD-append-add}
 use lib.Dec.{leb, eqb}
 use borrow.Author.Tests.{leb-true, le-leb, eqb-true, eq-eqb}
-use Rattle.fit.specs.Reading.{lowest, diff, near}
+use Rattle.fit.specs.Reading.{lowest, near}
 use Rattle.fit.specs.Rule.{SameRule, isPlaceBy, nearBy}
 use Rattle.fit.specs.Place.{fitOf, ruleOf, Place, dOf}
 use Rattle.fit.specs.Listing.{overlay}
-use Rattle.fit.specs.Refusal.{maxPoints, maxReadings, Accepted}
+use Rattle.fit.specs.Refusal.{maxPoints, Accepted}
 use Rattle.fit.specs.Spans.{spanFits, ruleIn, spanOf, spansFor, spansOf, Ready}
 use Rattle.fit.specs.Answer.{soughtBy, Lent, Answer, Answers}
 use Rattle.fit.specs.declared.answer.Search.{Search}

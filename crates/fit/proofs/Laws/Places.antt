@@ -1,14 +1,14 @@
 -- Laws of places: relation and test say the same, the list has exactly the places, and (d, g) gives the same ones. Assumes nothing.
-use mathlib.Core.Path.{_≡_, refl, sym, _∙_}
-use mathlib.Core.Bool.{Bool, true, false, _&&_}
+use mathlib.Core.Path.{_≡_}
+use mathlib.Core.Bool.{true, _&&_}
 use mathlib.Core.List.{List, List·Memᴰ}
-use Prim.Native.Nat.{ℕ, zero, suc, _+_, _*_, _≤_, _<_, min}
+use Prim.Native.Nat.{ℕ, _+_, _≤_, _<_}
 use native.Mathlib.Omega.{arith}
 use lib.ListN.{length, getD}
 use lib.Dec.{leb}
 use borrow.Author.Tests.{leb-true, le-leb}
 use Rattle.fit.specs.Reading.{diff, near}
-use Rattle.fit.specs.Rule.{readingAt, sumCost, isPlaceBy, nearBy}
+use Rattle.fit.specs.Rule.{readingAt, isPlaceBy, nearBy}
 use Rattle.fit.specs.Place.{fitOf, costOf, ruleOf, sumDiff, Place, isPlace, windows, dOf, gOf}
 use Rattle.fit.specs.Listing.{places, Rising, those}
 use Rattle.fit.proofs.Laws.Bools.{and-left, and-right, and-both, same-test}

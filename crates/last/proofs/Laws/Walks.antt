@@ -1,12 +1,11 @@
 -- Laws of last's walk, under any rule: how it goes, that it rises, and that it has every place. Assumes nothing.
-use mathlib.Core.Path.{_≡_, refl, sym, ap, _∙_}
-use mathlib.Core.Bool.{Bool, true, false, cond}
+use mathlib.Core.Path.{_≡_, _∙_}
+use mathlib.Core.Bool.{Bool, true, false}
 use mathlib.Core.Logic.{⊎-elim}
 use mathlib.Core.List.{List, [], _∷_, List·Memᴰ}
-use Prim.Native.Nat.{ℕ, zero, suc, _+_, _-_, _≤_, _<_}
+use Prim.Native.Nat.{ℕ, _+_, _-_, _≤_, _<_}
 use native.Mathlib.Omega.{arith}
 use lib.ListN.{length, getD}
-use lib.Dec.{eqb}
 use borrow.Author.Tests.{eq-eqb, ne-eqb, eqb-true, eqb-false}
 use Rattle.fit.specs.Rule.{Rule, readingAt, isPlaceBy, nearBy}
 use Rattle.fit.specs.Place.{windows}
@@ -15,7 +14,6 @@ use Rattle.fit.specs.Walk.{walkBy}
 use Rattle.fit.proofs.Laws.Bools.{either}
 use Rattle.fit.proofs.Laws.Rules.{by-inside, by-below, by-near}
 use Rattle.fit.proofs.Laws.Steps.{from-start, from-try, from-pass, from-end, walk-rises, walk-has}
-use Rattle.jumps.specs.Jumps.{lastJump}
 use Rattle.tables.specs.Holding.{Holds}
 use Rattle.jumps.proofs.Laws.Sizes.{last-jump-zero, zero-last-jump}
 use Rattle.jumps.proofs.Laws.Keeps.{last-keeps}

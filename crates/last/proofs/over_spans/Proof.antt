@@ -1,7 +1,7 @@
-use Rattle.last.proofs.Laws.Walks.{looked-up}
 -- `last::over_spans` meets its contract: it goes along the walk, a jump at a time. Assumes nothing.
+use Rattle.last.proofs.Laws.Walks.{looked-up}
 use mathlib.Core.Path.{_≡_, refl, sym, _∙_}
-use Prim.Native.Nat.{_+_, _-_, _≤_, _<_}
+use Prim.Native.Nat.{_+_, _-_}
 use native.Mathlib.Omega.{arith}
 use lib.ListN.{length}
 use borrow.Author.Needs.{needs}

@@ -1,13 +1,13 @@
 -- What a search knows before its first window, and what each of its steps needs of that. Assumes nothing.
-use mathlib.Core.Path.{_≡_, refl, sym, ap, subst, _∙_}
-use mathlib.Core.Bool.{Bool, true, false, cond}
-use mathlib.Core.List.{List, [], _∷_, List·Memᴰ}
-use Prim.Native.Nat.{ℕ, zero, suc, _+_, _*_, _≤_, _<_, max}
+use mathlib.Core.Path.{_≡_, refl, sym, ap, _∙_}
+use mathlib.Core.Bool.{false, cond}
+use mathlib.Core.List.{List, _∷_}
+use Prim.Native.Nat.{ℕ, _+_, _*_, _≤_, _<_, max}
 use native.Mathlib.Omega.{arith}
 use lib.ListN.{length, getD}
 use lib.Dec.{ltb}
-use Rattle.fit.specs.Rule.{readingAt, nearBy, isPlaceBy}
-use Rattle.fit.specs.Place.{fitOf, Place, dOf, windows}
+use Rattle.fit.specs.Rule.{nearBy, isPlaceBy}
+use Rattle.fit.specs.Place.{fitOf, dOf, windows}
 use Rattle.fit.specs.Refusal.{maxPoints, Accepted}
 use Rattle.fit.specs.Spans.{ruleIn, spansOf}
 use Rattle.fit.specs.Answer.{Sought, soughtBy, Lent, Tried, Answers}
@@ -23,7 +23,7 @@ use Rattle.comparing.specs.Leading.{leading}
 use Rattle.comparing.specs.Order.{compareOrder}
 use Rattle.tables.specs.Holding.{Holds}
 use Rattle.comparing.specs.Writing.{HoldsOrder}
-use Rattle.maximal.specs.Walk.{nearAt, comparedJump, maximalNext, maximalWalk}
+use Rattle.maximal.specs.Walk.{nearAt, maximalNext, maximalWalk}
 use Rattle.maximal.proofs.Laws.Steps.{jump-inside, compared-jump-is, step-is}
 use Rattle.maximal.proofs.Laws.Walks.{left, forward, next-bound, walk-step, walk-end, maximal-rises, maximal-has, far-no-place}
 

@@ -1,9 +1,9 @@
 -- The jump of one step, as the code computes it from its tables. Assumes nothing.
-use mathlib.Core.Path.{_≡_, refl, sym, ap, ap₂, _∙_}
+use mathlib.Core.Path.{_≡_, refl, sym, ap, _∙_}
 use mathlib.Core.Bool.{Bool, true, false, cond}
 use mathlib.Core.Logic.{⊎-elim}
 use mathlib.Core.List.{List, [], _∷_}
-use Prim.Native.Nat.{ℕ, zero, suc, _+_, _≤_, _<_, max}
+use Prim.Native.Nat.{ℕ, _+_, _≤_, _<_, max}
 use native.Mathlib.Nat.{not-suc-le-zero, le-of-suc-le-suc}
 use native.Mathlib.Omega.{arith}
 use lib.ListN.{length, getD}
@@ -18,9 +18,8 @@ use Rattle.comparing.specs.Leading.{leading}
 use Rattle.comparing.specs.Order.{compareOrder}
 use Rattle.tables.specs.Holding.{Holds}
 use Rattle.comparing.specs.Writing.{HoldsOrder}
-use Rattle.comparing.proofs.Laws.Leadings.{leading-at, leading-le}
 use Rattle.comparing.proofs.Laws.Orders.{order-length, order-point}
-use Rattle.maximal.specs.Walk.{nearAt, comparedJump, largerJump, maximalNext}
+use Rattle.maximal.specs.Walk.{nearAt, comparedJump, maximalNext}
 
 -- the point read from the table of the order
 module _ (d : ℕ) (x order : List ℕ) (j q : ℕ) (holds : HoldsOrder d x order) (inside : j < length x) (read : q ≡ getD order j 0) where

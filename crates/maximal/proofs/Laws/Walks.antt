@@ -3,19 +3,18 @@ use mathlib.Core.Path.{_≡_, refl, sym}
 use mathlib.Core.Bool.{Bool, true, false, cond}
 use mathlib.Core.Logic.{⊎-elim}
 use mathlib.Core.List.{List, [], _∷_, List·Memᴰ}
-use Prim.Native.Nat.{ℕ, zero, suc, _+_, _-_, _≤_, _<_, max}
+use Prim.Native.Nat.{ℕ, _+_, _-_, _≤_, _<_}
 use native.Mathlib.Omega.{arith}
 use lib.ListN.{length, getD}
 use lib.Dec.{ltb}
 use borrow.Author.Tests.{lt-ltb}
 use Rattle.fit.specs.Reading.{near}
-use Rattle.fit.specs.Rule.{readingAt, nearBy, isPlaceBy}
+use Rattle.fit.specs.Rule.{readingAt, nearBy}
 use Rattle.fit.specs.Place.{fitOf, ruleOf, Place, dOf, windows}
 use Rattle.fit.specs.Listing.{Rising}
 use Rattle.fit.specs.Walk.{walkBy}
 use Rattle.fit.specs.Refusal.{Accepted}
 use Rattle.fit.proofs.Laws.Bools.{either, le-or-lt, not-both}
-use Rattle.fit.proofs.Laws.Rules.{by-below}
 use Rattle.fit.proofs.Laws.Places.{place-by, place-near, place-below, near-derived}
 use Rattle.fit.proofs.Laws.Steps.{from-start, from-try, from-end, walk-rises, walk-has}
 use Rattle.jumps.specs.Jumps.{nextJump}

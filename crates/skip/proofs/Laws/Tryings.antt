@@ -1,11 +1,11 @@
 -- Laws of several windows tried one after the other. Nobody else opens these definitions. Assumes nothing.
-use mathlib.Core.Path.{_≡_, refl, sym, ap, _∙_}
+use mathlib.Core.Path.{_≡_, refl, ap, _∙_}
 use mathlib.Core.List.{List, [], _∷_, _++_}
-use Prim.Native.Nat.{ℕ, zero, suc, _+_, _≤_, _<_}
+use Prim.Native.Nat.{ℕ, suc, _+_, _≤_, _<_}
 use native.Mathlib.Nat.{le-refl}
 use native.Mathlib.Omega.{arith}
 use lib.ListN.{length}
-use Rattle.fit.specs.Answer.{Sought, Lent, Tried, noted, listed}
+use Rattle.fit.specs.Answer.{Sought, Lent, Tried}
 use Rattle.fit.specs.declared.answer.Search.{Search}
 use Rattle.fit.proofs.Laws.Answers.{tried-one, order-one}
 use Rattle.fit.proofs.Laws.Alongs.{Along, along-tried, along-on, listed-long}

@@ -1,7 +1,7 @@
 -- Laws of skip's walk: how it goes, that it rises, and that it has every window whose readings are all near. Assumes nothing.
-use mathlib.Core.Path.{_≡_, refl, sym, ap, ap₂, _∙_}
+use mathlib.Core.Path.{_≡_, refl}
 use mathlib.Core.Bool.{Bool, true, false, cond, _&&_}
-use mathlib.Core.Logic.{_⊎_, inl, inr, ⊎-elim}
+use mathlib.Core.Logic.{_⊎_, ⊎-elim}
 use mathlib.Core.List.{List, [], _∷_, _++_, List·Memᴰ, List·Memᴰ·not-nil, Memᴰ·append-left, Memᴰ·append-right}
 use Prim.Native.Nat.{ℕ, zero, suc, _+_, _-_, _≤_, _<_}
 use native.Mathlib.Nat.{not-suc-le-zero, eq-or-lt-of-le, le-of-suc-le-suc}
@@ -11,7 +11,7 @@ use lib.Dec.{leb, ltb}
 use borrow.Author.Tests.{le-leb, lt-leb, lt-ltb, le-ltb}
 use Rattle.fit.specs.Rule.{readingAt}
 use Rattle.fit.specs.Listing.{Rising}
-use Rattle.fit.specs.Listing.Rising.{none, next}
+use Rattle.fit.specs.Listing.Rising.{none}
 use Rattle.fit.proofs.Laws.Bools.{le-or-lt, and-both}
 use Rattle.fit.proofs.Laws.Risings.{in-front, old-front, new-front, rising-front, rising-from, rising-append}
 use Rattle.fit.specs.Answer.{Sought, Lent}

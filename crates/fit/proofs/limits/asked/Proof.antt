@@ -1,5 +1,5 @@
 -- `fit::limits::asked` meets its contract: the profile's number where it is not 0, else the tolerance's. Assumes nothing.
-use mathlib.Core.Path.{_≡_, ap, _∙_}
+use mathlib.Core.Path.{ap, _∙_}
 use Rattle.fit.specs.declared.limits.MadeProfile.{MadeProfile}
 use Rattle.fit.specs.declared.limits.MadeTolerance.{MadeTolerance}
 use Rattle.fit.specs.Refusal.{askedOf}

@@ -1,5 +1,5 @@
 -- `fit::limits::held_points` meets its contract: after i points the first i of them are laid. Assumes nothing.
-use Prim.Native.Nat.{ℕ, _≤_, _-_}
+use Prim.Native.Nat.{_≤_, _-_}
 use mathlib.Core.Path.{_≡_, sym}
 use native.Mathlib.Omega.{arith}
 use lib.ListN.{length, take, replicate}

@@ -1,9 +1,6 @@
 -- `compared_jump` meets its contract. Assumes nothing.
 use native.Mathlib.Omega.{arith}
 use borrow.Author.Tests.{lt-ltb, le-ltb}
-use mathlib.Core.Path.{ap, _∙_}
-use lib.ListN.{getD}
-use Prim.Native.Nat.{ℕ}
 use borrow.Author.Needs.{needs}
 use Rattle.maximal.proofs.step.compared_jump.Statement.{statement}
 use Rattle.maximal.proofs.step.compared_jump.Tie as tie

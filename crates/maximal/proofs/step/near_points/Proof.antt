@@ -1,12 +1,11 @@
+-- `near_points` meets its contract: the first j of the order are near. Assumes nothing.
 use Rattle.comparing.specs.Writing.{HoldsOrder}
 use Rattle.maximal.proofs.Laws.Steps.{compared-at, compared-in}
--- `near_points` meets its contract: the first j of the order are near. Assumes nothing.
-use Prim.Native.Nat.{_+_, _-_, _≤_, _<_}
+use Prim.Native.Nat.{_+_, _-_, _≤_}
 use mathlib.Core.Path.{sym, _∙_}
 use native.Mathlib.Omega.{arith}
 use lib.ListN.{length}
-use borrow.Author.Needs.{needs}
-use Rattle.comparing.proofs.Laws.Orders.{order-point, Led, led-none, led-more, led-stop, led-end}
+use Rattle.comparing.proofs.Laws.Orders.{Led, led-none, led-more, led-stop, led-end}
 use Rattle.maximal.specs.Walk.{nearAt}
 use Rattle.maximal.proofs.step.near_points.Statement.{statement}
 use Rattle.maximal.proofs.step.near_points.Tie as tie

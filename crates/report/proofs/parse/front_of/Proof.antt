@@ -1,10 +1,9 @@
-use Rattle.report.proofs.Laws.Parses.{front-as-read}
 -- `report::parse::front_of` meets its contract: each return says which part of the rule applied. Assumes nothing.
-use mathlib.Core.Path.{_≡_, refl, sym, ap, _∙_}
+use Rattle.report.proofs.Laws.Parses.{front-as-read}
+use mathlib.Core.Path.{sym, _∙_}
 use mathlib.Core.Logic.{inl, inr}
-use Prim.Native.Nat.{_+_}
 use native.Mathlib.Omega.{arith}
-use Rattle.report.proofs.Laws.Parses.{front-refused, front-read}
+use Rattle.report.proofs.Laws.Parses.{front-refused}
 use borrow.Author.Needs.{needs}
 use Rattle.report.proofs.parse.front_of.Statement.{statement}
 use Rattle.report.proofs.parse.front_of.Tie as tie

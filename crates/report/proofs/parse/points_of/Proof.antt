@@ -1,5 +1,5 @@
 -- `report::parse::points_of` meets its contract. Assumes nothing.
-use mathlib.Core.Path.{sym, _∙_}
+use mathlib.Core.Path.{sym}
 use native.Mathlib.Nat.{add-sub-cancel-left}
 use native.Mathlib.Omega.{arith}
 use Rattle.report.proofs.Laws.Parses.{front-good, front-m, points-are, no-points}

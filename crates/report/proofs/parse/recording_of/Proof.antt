@@ -1,7 +1,7 @@
+-- `report::parse::recording_of` meets its contract. Assumes nothing.
 use mathlib.Core.Path.{ap}
 use Prim.Native.Nat.{ℕ, _+_}
--- `report::parse::recording_of` meets its contract. Assumes nothing.
-use mathlib.Core.Path.{sym, _∙_}
+use mathlib.Core.Path.{sym}
 use native.Mathlib.Omega.{arith}
 use Rattle.report.proofs.Laws.Parses.{front-good, front-m, recording-is, no-recording}
 use borrow.Author.Needs.{needs}

@@ -1,5 +1,5 @@
 -- `fit::limits::Profile::new` meets its contract: each return says which reason applied. Assumes nothing.
-use mathlib.Core.Path.{refl, sym, _∙_}
+use mathlib.Core.Path.{refl, sym}
 use mathlib.Core.Logic.{inl, inr}
 use native.Mathlib.Omega.{arith}
 use Rattle.fit.proofs.Laws.Constructed.{profile-refused, profile-made}
