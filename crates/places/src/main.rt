@@ -2,7 +2,7 @@
 use libc::STDIN_FILENO;
 
 fn main() {
-    let mut input = [0u8; report::MAX_INPUT + 1];
+    let mut input = [0u8; input::MAX_INPUT + 1];
     let n = io::read_full(STDIN_FILENO, &mut input);
     report::answer(&input[..n]);
 }

@@ -1,16 +1,9 @@
-// The program on slices: its input taken apart, every searcher asked, and the text that it prints.
+// The program on slices: every searcher asked of an input that is taken apart, and the text that it prints.
 mod lines;
-mod parse;
 
 use libc::STDOUT_FILENO;
 ghost use mathlib.Core.Path.{_≡_};
-ghost use Rattle.report.specs.Inputs.{ofInput};
-pub use parse::Front;
-pub use parse::MAX_INPUT;
-pub use parse::front_of;
-pub use parse::points_of;
-pub use parse::recording_of;
-
+ghost use Rattle.input.specs.Inputs.{ofInput};
 // Room for the whole text: five lines of at most 52 bytes, and a line of at most 6 bytes for each of fewer than 12,000 places.
 const PAGE: usize = 73000;
 
@@ -18,23 +11,23 @@ const PAGE: usize = 73000;
 pub fn answer(input: &[u8]) -> u32
     ensures { λ r. ⌜ r ≡ ofInput (now (input .entry)) ⌝ }
 {
-    let front = parse::front_of(input);
+    let front = input::front_of(input);
     if front.refusal != 0 {
         io::write_all(STDOUT_FILENO, b"input refused 5\n");
         return front.refusal;
     }
     tell(
-        parse::points_of(input),
+        input::points_of(input),
         front.delta,
         front.gamma,
-        parse::recording_of(input),
+        input::recording_of(input),
     );
     0
 }
 
 fn tell(points: &[u8], delta: u32, gamma: u32, recording: &[u8]) {
     let mut page = [0u8; PAGE];
-    let mut list = [0u32; MAX_INPUT];
+    let mut list = [0u32; input::MAX_INPUT];
     let at = report_on(&mut page, points, delta, gamma, recording, &mut list);
     lines::write(&page, at);
 }

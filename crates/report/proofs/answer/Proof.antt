@@ -1,6 +1,6 @@
 -- `report::answer` meets its contract: the number of the front. Assumes nothing.
 use mathlib.Core.Path.{sym, _∙_}
-use Rattle.report.proofs.Laws.Parses.{front-number}
+use Rattle.input.proofs.Laws.Parses.{front-number}
 use borrow.Author.Needs.{needs}
 use Rattle.report.proofs.answer.Statement.{statement}
 use Rattle.report.proofs.answer.Tie as tie

@@ -1,11 +1,11 @@
--- `report::parse::points_of` meets its contract. Assumes nothing.
+-- `input::points_of` meets its contract. Assumes nothing.
 use mathlib.Core.Path.{sym}
 use native.Mathlib.Nat.{add-sub-cancel-left}
 use native.Mathlib.Omega.{arith}
-use Rattle.report.proofs.Laws.Parses.{front-good, front-m, points-are, no-points}
+use Rattle.input.proofs.Laws.Parses.{front-good, front-m, points-are, no-points}
 use borrow.Author.Needs.{needs}
-use Rattle.report.proofs.parse.points_of.Statement.{statement}
-use Rattle.report.proofs.parse.points_of.Tie as tie
+use Rattle.input.proofs.points_of.Statement.{statement}
+use Rattle.input.proofs.points_of.Tie as tie
 
 front-of-requires : tie.Need-front-of-requires
 front-of-requires c κs = search needs

@@ -1,7 +1,7 @@
-// The program's input, taken apart.
+// The input of the program, taken apart.
 ghost use mathlib.Core.Path.{_≡_};
 ghost use Prim.Native.Nat.{_≤_};
-ghost use Rattle.report.specs.Inputs.{frontOf, pointsIn, recordingIn};
+ghost use Rattle.input.specs.Inputs.{frontOf, pointsIn, recordingIn};
 
 // The most bytes that an input may have.
 pub const MAX_INPUT: usize = 12000;

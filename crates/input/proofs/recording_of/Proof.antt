@@ -1,12 +1,12 @@
--- `report::parse::recording_of` meets its contract. Assumes nothing.
+-- `input::recording_of` meets its contract. Assumes nothing.
 use mathlib.Core.Path.{ap}
 use Prim.Native.Nat.{ℕ, _+_}
 use mathlib.Core.Path.{sym}
 use native.Mathlib.Omega.{arith}
-use Rattle.report.proofs.Laws.Parses.{front-good, front-m, recording-is, no-recording}
+use Rattle.input.proofs.Laws.Parses.{front-good, front-m, recording-is, no-recording}
 use borrow.Author.Needs.{needs}
-use Rattle.report.proofs.parse.recording_of.Statement.{statement}
-use Rattle.report.proofs.parse.recording_of.Tie as tie
+use Rattle.input.proofs.recording_of.Statement.{statement}
+use Rattle.input.proofs.recording_of.Tie as tie
 
 front-of-requires : tie.Need-front-of-requires
 front-of-requires c κs = search needs

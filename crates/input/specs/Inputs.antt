@@ -5,7 +5,7 @@ use mathlib.Core.List.{List}
 use mathlib.Core.Logic.{_⊎_}
 use lib.ListN.{length, getD, take, drop}
 use lib.Dec.{ltb}
-use Rattle.report.specs.declared.parse.Front.{Front}
+use Rattle.input.specs.declared.Front.{Front}
 
 abbrev pub deltaIn : List ℕ → ℕ
 deltaIn input = getD input 0 0

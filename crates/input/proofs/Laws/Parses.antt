@@ -10,8 +10,8 @@ use lib.Seq.{take-all}
 use lib.Dec.{ltb}
 use borrow.Author.Tests.{lt-ltb, ltb-true}
 use Rattle.fit.proofs.Laws.Bools.{or-cases, or-left, or-right, is-false, le-or-lt}
-use Rattle.report.specs.Inputs.{deltaIn, gammaIn, mIn, maxInput, ofInput, BadInput, GoodInput, frontBy, frontOf, pointsBy, pointsIn, recordingBy, recordingIn}
-use Rattle.report.specs.declared.parse.Front.{Front}
+use Rattle.input.specs.Inputs.{deltaIn, gammaIn, mIn, maxInput, ofInput, BadInput, GoodInput, frontBy, frontOf, pointsBy, pointsIn, recordingBy, recordingIn}
+use Rattle.input.specs.declared.Front.{Front}
 
 module _ (input : List ℕ) where
   -- the test, by its three parts

@@ -1,12 +1,12 @@
--- `report::parse::front_of` meets its contract: each return says which part of the rule applied. Assumes nothing.
-use Rattle.report.proofs.Laws.Parses.{front-as-read}
+-- `input::front_of` meets its contract: each return says which part of the rule applied. Assumes nothing.
+use Rattle.input.proofs.Laws.Parses.{front-as-read}
 use mathlib.Core.Path.{sym, _∙_}
 use mathlib.Core.Logic.{inl, inr}
 use native.Mathlib.Omega.{arith}
-use Rattle.report.proofs.Laws.Parses.{front-refused}
+use Rattle.input.proofs.Laws.Parses.{front-refused}
 use borrow.Author.Needs.{needs}
-use Rattle.report.proofs.parse.front_of.Statement.{statement}
-use Rattle.report.proofs.parse.front_of.Tie as tie
+use Rattle.input.proofs.front_of.Statement.{statement}
+use Rattle.input.proofs.front_of.Tie as tie
 
 refused-requires : tie.Need-refused-requires
 refused-requires c κs = search needs
