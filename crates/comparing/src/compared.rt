@@ -22,7 +22,7 @@ fn agrees(points: &[u8], d: u32, k: usize, q: usize) -> bool
     if q < k {
         return true;
     }
-    fit::are_alike(2 * d, points[q - k], points[q])
+    reading::are_alike(2 * d, points[q - k], points[q])
 }
 
 // How many points at the head of the order agree with the window that a jump of k lands on.

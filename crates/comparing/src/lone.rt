@@ -21,8 +21,8 @@ fn is_lonely(d: u32, b: u8, a: u8) -> bool
     requires { ⌜ (d ≤ maxDelta) × (lowest ≤ a) ⌝ }
     ensures { λ r. ⌜ r ≡ lonely d b a ⌝ }
 {
-    if fit::is_near(d, b, fit::least_near(a, d)) {
-        !fit::is_near(d, b, most_near(a, d))
+    if reading::is_near(d, b, reading::least_near(a, d)) {
+        !reading::is_near(d, b, most_near(a, d))
     } else {
         true
     }

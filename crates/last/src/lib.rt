@@ -23,7 +23,7 @@ pub fn search(points: &[u8], delta: u32, gamma: u32, recording: &[u8], list: &mu
     if found.refusal != 0 {
         return found;
     }
-    let spans = fit::spans_of(points, delta);
+    let spans = ordinary::spans_of(points, delta);
     let after = tables::after_jump(points, fit::smaller(delta, gamma));
     let table = tables::last_table(&spans, points.len(), gamma);
     over_spans(
@@ -56,13 +56,13 @@ fn over_spans(
         (length (lastWalk (nearBy (ruleIn (now (spans .entry))) gamma) m after (now (recording .entry))))
         (lent (now (list .entry))) r (lent (now (list .exit))) ⌝ }
 {
-    let count = fit::count_windows(m, recording);
+    let count = window::count_windows(m, recording);
     let mut found = start;
     let mut s = 0;
     while s < count {
         let jump = tables::jump_at(table, recording[s + (m - 1)]);
         if jump == 0 {
-            found = fit::try_at(spans, m, gamma, recording, list, s, found);
+            found = window::try_at(spans, m, gamma, recording, list, s, found);
             s += after;
         } else {
             s += jump;

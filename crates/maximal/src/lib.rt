@@ -20,13 +20,13 @@ pub fn search(points: &[u8], delta: u32, gamma: u32, recording: &[u8], list: &mu
     }
     let m = points.len();
     let d = fit::smaller(delta, gamma);
-    let spans = fit::spans_of(points, delta);
+    let spans = ordinary::spans_of(points, delta);
     let next = tables::next_table(&spans, m, gamma);
     let compared = comparing::compared_of(points, d);
     let order = compared.order;
     let jumps = compared.jumps;
     let full = tables::full_jump(points, d);
-    let count = fit::count_windows(m, recording);
+    let count = window::count_windows(m, recording);
     let mut s = 0;
     while s < count {
         let near = step::near_points(points, d, &order, recording, s);

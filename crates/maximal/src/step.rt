@@ -30,7 +30,7 @@ pub(crate) fn near_points(points: &[u8], d: u32, order: &[u8], recording: &[u8],
     let mut j = 0;
     while j < points.len() {
         let q = wide(order[j]);
-        if fit::is_near(d, points[q], recording[s + q]) {
+        if reading::is_near(d, points[q], recording[s + q]) {
             j += 1;
         } else {
             return j;
@@ -58,9 +58,9 @@ pub(crate) fn try_compared(
         (lent (now (list .entry))) r (lent (now (list .exit))) ⌝ }
 {
     if near < m {
-        return fit::note(list, s, false, before);
+        return window::note(list, s, false, before);
     }
-    fit::try_at(spans, m, gamma, recording, list, s, before)
+    window::try_at(spans, m, gamma, recording, list, s, before)
 }
 
 // The mismatch jump of the point that is compared after `near` others, or the full jump.

@@ -47,7 +47,7 @@ pub(crate) fn scan(
         Answer 0 (soughtIn k (now (table .entry)) (now (recording .entry))) (windows (k .m) (length (now (recording .entry))))
         (lent (now (list .entry))) r (lent (now (list .exit))) ⌝ }
 {
-    let count = fit::count_windows(k.m as usize, recording);
+    let count = window::count_windows(k.m as usize, recording);
     let lead = recording.len() - count;
     let last = 1u64 << ((k.b + 1) * k.m - 1);
     let mut word = read_lead(k, table, recording, lead);
@@ -55,7 +55,7 @@ pub(crate) fn scan(
     let mut s = 0;
     while s < count {
         word = read_one(k, table, word, recording[lead + s]);
-        found = fit::note(list, s, word < last, found);
+        found = window::note(list, s, word < last, found);
         s += 1;
     }
     found

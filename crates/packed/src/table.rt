@@ -11,8 +11,8 @@ fn add_at(d: u32, g: u64, p: u8, a: u8) -> u64
     requires { ⌜ g < 2 ^ 32 ⌝ }
     ensures { λ r. ⌜ r ≡ added d g p a ⌝ }
 {
-    if fit::is_near(d, p, a) {
-        fit::differ(p, a) as u64
+    if reading::is_near(d, p, a) {
+        reading::differ(p, a) as u64
     } else {
         g + 1
     }

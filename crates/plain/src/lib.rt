@@ -17,7 +17,7 @@ pub fn search(points: &[u8], delta: u32, gamma: u32, recording: &[u8], list: &mu
     if found.refusal != 0 {
         return found;
     }
-    let spans = fit::spans_of(points, delta);
+    let spans = ordinary::spans_of(points, delta);
     over_spans(&spans, points.len(), gamma, recording, list, found)
 }
 
@@ -36,11 +36,11 @@ pub fn over_spans(
         (windows m (length (now (recording .entry))))
         (lent (now (list .entry))) r (lent (now (list .exit))) ⌝ }
 {
-    let count = fit::count_windows(m, recording);
+    let count = window::count_windows(m, recording);
     let mut found = start;
     let mut s = 0;
     while s < count {
-        found = fit::try_at(spans, m, gamma, recording, list, s, found);
+        found = window::try_at(spans, m, gamma, recording, list, s, found);
         s += 1;
     }
     found

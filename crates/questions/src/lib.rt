@@ -46,7 +46,7 @@ pub fn last_reading(points: &[u8], delta: u32, gamma: u32, a: u8) -> Jump
     if number != 0 {
         return answer(number, 0);
     }
-    let spans = fit::spans_of(points, delta);
+    let spans = ordinary::spans_of(points, delta);
     let jump = tables::last_jump(&spans, points.len(), gamma, a);
     answer(0, jump)
 }
@@ -61,7 +61,7 @@ pub fn next_reading(points: &[u8], delta: u32, gamma: u32, a: u8) -> Jump
     if number != 0 {
         return answer(number, 0);
     }
-    let spans = fit::spans_of(points, delta);
+    let spans = ordinary::spans_of(points, delta);
     let jump = tables::next_jump(&spans, points.len(), gamma, a);
     answer(0, jump)
 }

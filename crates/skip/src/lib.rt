@@ -21,7 +21,7 @@ pub fn search(points: &[u8], delta: u32, gamma: u32, recording: &[u8], list: &mu
     if found.refusal != 0 {
         return found;
     }
-    let spans = fit::spans_of(points, delta);
+    let spans = ordinary::spans_of(points, delta);
     over_spans(&spans, points.len(), gamma, recording, list, found)
 }
 
@@ -72,9 +72,9 @@ fn try_probed(
     let mut i = m;
     while 0 < i {
         i -= 1;
-        if fit::may_stand(spans, gamma, i, a) {
+        if window::may_stand(spans, gamma, i, a) {
             if q - i + m <= n {
-                found = fit::try_at(spans, m, gamma, recording, list, q - i, found);
+                found = window::try_at(spans, m, gamma, recording, list, q - i, found);
             }
         }
     }

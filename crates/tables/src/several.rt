@@ -12,7 +12,7 @@ fn all_agree(points: &[u8], d: u32, k: usize) -> bool
 {
     let mut i = 0;
     while i < points.len() - k {
-        if fit::are_alike(2 * d, points[i], points[i + k]) {
+        if reading::are_alike(2 * d, points[i], points[i + k]) {
             i += 1;
         } else {
             return false;

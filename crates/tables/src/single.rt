@@ -17,7 +17,7 @@ fn greatest_near(spans: &[u16], m: usize, gamma: u32, a: u8) -> usize
 {
     let mut i = m;
     while 0 < i {
-        if fit::may_stand(spans, gamma, i - 1, a) {
+        if window::may_stand(spans, gamma, i - 1, a) {
             return i;
         }
         i -= 1;
@@ -92,7 +92,7 @@ fn greatest_alike(points: &[u8], k: u32, p: u8, n: usize) -> usize
 {
     let mut i = n;
     while 0 < i {
-        if fit::are_alike(k, points[i - 1], p) {
+        if reading::are_alike(k, points[i - 1], p) {
             return i;
         }
         i -= 1;

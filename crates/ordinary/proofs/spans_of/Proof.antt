@@ -1,0 +1,143 @@
+-- `ordinary::spans_of` meets its contract: after i points the spans of the first i of them are laid. Assumes nothing.
+use mathlib.Core.Path.{_≡_, _∙_}
+use Prim.Native.Nat.{_≤_, _-_, _*_}
+use native.Mathlib.Omega.{arith}
+use lib.ListN.{length, take, replicate}
+use lib.Seq.{take-length}
+use borrow.Author.Needs.{needs}
+use Rattle.fit.specs.Listing.{overlay}
+use Rattle.fit.specs.Refusal.{maxPoints, maxDelta}
+use Rattle.fit.specs.Spans.{spansFor}
+use Rattle.fit.proofs.Laws.Compiled.{spans-none, spans-next}
+use Rattle.ordinary.proofs.spans_of.Statement.{statement}
+use Rattle.ordinary.proofs.spans_of.Tie as tie
+
+abbrev Inv-loop : tie.InvT-loop
+Inv-loop points delta d spans₀ i₀ spans i = (i ≤ length points) × (length points ≤ maxPoints) × (delta ≤ maxDelta) × (spans ≡ overlay (spansFor delta (take i points)) (replicate (4 * maxPoints) 0))
+
+abbrev μ-loop : tie.MeasureT-loop
+μ-loop points delta d spans₀ i₀ spans i = length points - i
+
+cast-d : tie.Need-cast-d Inv-loop μ-loop
+cast-d c = omega arith
+
+loop-holds : tie.Need-loop-holds Inv-loop μ-loop
+loop-holds c = (omega arith, omega arith, omega arith, spans-none _ (c .before .args .points .now) _)
+
+shared-slice-read-wide : tie.Need-shared-slice-read-wide Inv-loop μ-loop
+shared-slice-read-wide c = omega arith
+
+wide-requires : tie.Need-wide-requires Inv-loop μ-loop
+wide-requires c κs = search needs
+
+shared-slice-read-least-near : tie.Need-shared-slice-read-least-near Inv-loop μ-loop
+shared-slice-read-least-near c = omega arith
+
+least-near-requires : tie.Need-least-near-requires Inv-loop μ-loop
+least-near-requires c κs = search needs
+
+wide-requires-2 : tie.Need-wide-requires-2 Inv-loop μ-loop
+wide-requires-2 c κs = search needs
+
+mul-spans : tie.Need-mul-spans Inv-loop μ-loop
+mul-spans c = omega arith
+
+mul-spans-2 : tie.Need-mul-spans-2 Inv-loop μ-loop
+mul-spans-2 c = omega arith
+
+array-write-spans : tie.Need-array-write-spans Inv-loop μ-loop
+array-write-spans c = omega arith
+
+add-spans : tie.Need-add-spans Inv-loop μ-loop
+add-spans c = omega arith
+
+mul-spans-3 : tie.Need-mul-spans-3 Inv-loop μ-loop
+mul-spans-3 c = omega arith
+
+add-spans-2 : tie.Need-add-spans-2 Inv-loop μ-loop
+add-spans-2 c = omega arith
+
+mul-spans-4 : tie.Need-mul-spans-4 Inv-loop μ-loop
+mul-spans-4 c = omega arith
+
+array-write-spans-2 : tie.Need-array-write-spans-2 Inv-loop μ-loop
+array-write-spans-2 c = omega arith
+
+mul-spans-5 : tie.Need-mul-spans-5 Inv-loop μ-loop
+mul-spans-5 c = omega arith
+
+add-spans-3 : tie.Need-add-spans-3 Inv-loop μ-loop
+add-spans-3 c = omega arith
+
+mul-spans-6 : tie.Need-mul-spans-6 Inv-loop μ-loop
+mul-spans-6 c = omega arith
+
+array-write-spans-3 : tie.Need-array-write-spans-3 Inv-loop μ-loop
+array-write-spans-3 c = omega arith
+
+mul-spans-7 : tie.Need-mul-spans-7 Inv-loop μ-loop
+mul-spans-7 c = omega arith
+
+add-spans-4 : tie.Need-add-spans-4 Inv-loop μ-loop
+add-spans-4 c = omega arith
+
+mul-spans-8 : tie.Need-mul-spans-8 Inv-loop μ-loop
+mul-spans-8 c = omega arith
+
+array-write-spans-4 : tie.Need-array-write-spans-4 Inv-loop μ-loop
+array-write-spans-4 c = omega arith
+
+add-i : tie.Need-add-i Inv-loop μ-loop
+add-i c = omega arith
+
+loop-less : tie.Need-loop-less Inv-loop μ-loop
+loop-less c = omega arith
+
+loop-again : tie.Need-loop-again Inv-loop μ-loop
+loop-again c =
+    let at-loop = c .before .before .before .before .before .before in (
+      omega arith,
+      omega arith,
+      omega arith,
+      spans-next _ _ _ _ _ _ _ (omega arith) (at-loop .loop .inv .3) (c .before .before .before .wide .ensures .0) (c .wide2 .ensures .0 ∙ c .before .least-near .ensures),
+    )
+
+returns : tie.Need-returns Inv-loop μ-loop
+returns c =
+    let points = c .before .before .before .args .points .now in
+    let e : c .before .loop .i ≡ length points = omega arith in
+    rw (← take-length points, ← e) (c .before .loop .inv .3)
+
+pub spans-of-spec : {M : Type 1} → statement M
+spans-of-spec =
+    tie.close
+    (tie.spec
+    Inv-loop
+    μ-loop
+    cast-d
+    loop-holds
+    shared-slice-read-wide
+    wide-requires
+    shared-slice-read-least-near
+    least-near-requires
+    wide-requires-2
+    mul-spans
+    mul-spans-2
+    array-write-spans
+    add-spans
+    mul-spans-3
+    add-spans-2
+    mul-spans-4
+    array-write-spans-2
+    mul-spans-5
+    add-spans-3
+    mul-spans-6
+    array-write-spans-3
+    mul-spans-7
+    add-spans-4
+    mul-spans-8
+    array-write-spans-4
+    add-i
+    loop-less
+    loop-again
+    returns)

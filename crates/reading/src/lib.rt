@@ -1,0 +1,47 @@
+// Readings: differences, and which of them are near.
+ghost use mathlib.Core.Path.{_≡_};
+ghost use Prim.Native.Nat.{_-_, _≤_, max};
+ghost use Rattle.fit.specs.Reading.{lowest, highest, diff, alike, near};
+
+// The least value that is a reading.
+const LOWEST: u32 = 0;
+
+// The difference of a and b.
+pub fn differ(a: u8, b: u8) -> u32
+    ensures { λ r. ⌜ (r ≡ diff a b) × (r ≤ highest) ⌝ }
+{
+    if a < b {
+        (b - a) as u32
+    } else {
+        (a - b) as u32
+    }
+}
+
+// Whether points p and q differ by at most k.
+pub fn are_alike(k: u32, p: u8, q: u8) -> bool
+    ensures { λ r. ⌜ r ≡ alike k p q ⌝ }
+{
+    differ(p, q) <= k
+}
+
+// Whether reading a is near point p.
+pub fn is_near(d: u32, p: u8, a: u8) -> bool
+    ensures { λ r. ⌜ r ≡ near d p a ⌝ }
+{
+    differ(p, a) <= d
+}
+
+// The least reading that is near point p.
+pub fn least_near(p: u8, delta: u32) -> u8
+    ensures { λ r. ⌜ r ≡ max lowest (p - delta) ⌝ }
+{
+    let v = p as u32;
+    if v < delta {
+        return LOWEST as u8;
+    }
+    let low = v - delta;
+    if low < LOWEST {
+        return LOWEST as u8;
+    }
+    low as u8
+}

@@ -1,0 +1,11 @@
+// One window at a time: its check over spans, and what is noted of it. Every searcher tries its windows here. What a place is, what spans
+// say and what is noted stand in the definitions of `fit`.
+mod check;
+mod spans;
+mod trying;
+
+pub use check::count_windows;
+pub use check::is_place;
+pub use spans::may_stand;
+pub use trying::note;
+pub use trying::try_at;
