@@ -3,7 +3,7 @@ ghost use mathlib.Core.Path.{_≡_};
 ghost use Prim.Native.Nat.{_+_, _≤_, min};
 ghost use lib.ListN.{length};
 ghost use lib.Seq.{paste};
-ghost use Rattle.page.specs.Put.{Put, Spelled};
+ghost use Rattle.page.specs.Put.{Put, decimal};
 
 // Puts the text on the page from index `at` on, as far as it fits, and answers where it ends.
 pub fn put_text(page: &mut [u8], at: usize, text: &[u8]) -> usize
@@ -19,7 +19,7 @@ pub fn put_text(page: &mut [u8], at: usize, text: &[u8]) -> usize
 
 // Puts the number's decimal digits on the page in the same way.
 pub fn put_number(page: &mut [u8], at: usize, x: u64) -> usize
-    ensures { λ r. ⌜ Spelled (now (page .entry)) at x r (now (page .exit)) ⌝ }
+    ensures { λ r. ⌜ Put (now (page .entry)) at (decimal x) r (now (page .exit)) ⌝ }
 {
     let mut digits = [0u8; 20];
     let count = io::decimal(x, &mut digits);

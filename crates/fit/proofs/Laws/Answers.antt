@@ -11,7 +11,7 @@ use Rattle.fit.specs.Refusal.{refusalOf, Accepted}
 use Rattle.fit.specs.Listing.{places, overlay}
 use Rattle.fit.specs.Answer.{Sought, soughtBy, soughtOf, all, Lent, lent, begun, outcome, filled, Answer, Answers, noted, listed, Noted}
 use Rattle.fit.specs.declared.answer.Search.{Search}
-use Rattle.fit.proofs.Laws.Listings.{up-same}
+use Rattle.fit.proofs.Laws.Listings.{up-same, up-short}
 use Rattle.fit.proofs.Laws.Rules.{same-place}
 use Rattle.fit.proofs.Laws.Refusals.{accepted, none-exactly}
 
@@ -59,6 +59,16 @@ same-answer r′ delta gamma x y tried ok q a =
 pub sought-places : (delta gamma : ℕ) (x y : List ℕ) → all (soughtOf delta gamma x y) ≡ places delta gamma x y
 unfolding places
 sought-places delta gamma x y = refl
+
+pub places-short : (delta gamma : ℕ) (x y : List ℕ) → length (places delta gamma x y) ≤ windows (length x) (length y)
+places-short delta gamma x y = rw (← sought-places delta gamma x y) (up-short (soughtOf delta gamma x y .place) (windows (length x) (length y)))
+
+-- no number of an answer is above what the refusal, the places and the windows tried are at most
+pub outcome-small : (num : ℕ) (t : Sought) (tried b : ℕ) → num ≤ b → (num ≡ 0 → (length (all t) ≤ b) × (tried ≤ b))
+    → (outcome num t tried .refusal ≤ b) × (outcome num t tried .total ≤ b) × (outcome num t tried .tried ≤ b)
+unfolding outcome
+outcome-small zero t tried b h small = (h, small refl .0, small refl .1)
+outcome-small (suc num) t tried b h small = (h, omega arith, omega arith)
 
 module _ (delta gamma : ℕ) (x y : List ℕ) (tried : ℕ) (entry final : List ℕ) (r : Search)
     (a : Answers delta gamma x y tried (lent entry) r (lent final)) where

@@ -1,11 +1,11 @@
 -- Laws of `upTo` and `overlay`. Assumes nothing.
 use mathlib.Core.Path.{_≡_, refl, ap}
-use mathlib.Core.Bool.{Bool}
+use mathlib.Core.Bool.{Bool, true, false, cond}
 use mathlib.Core.List.{List, [], _∷_, _++_}
 use Prim.Native.Nat.{ℕ, zero, suc, _+_, _≤_, _<_}
 use native.Mathlib.Nat.{not-suc-le-zero, le-of-suc-le-suc}
 use native.Mathlib.Omega.{arith}
-use lib.ListN.{length, set, getD, take, drop}
+use lib.ListN.{length, set, getD, take, drop, length-append}
 use Rattle.fit.specs.Listing.{upTo, overlay}
 
 -- tests that agree below k list the same
@@ -13,6 +13,16 @@ pub up-same : (p q : ℕ → Bool) (k : ℕ) → ((s : ℕ) → s < k → p s �
 unfolding upTo
 up-same p q zero h = refl
 up-same p q (suc k) h = rw (h k (omega arith), up-same p q k (λ s l. h s (omega arith)))
+
+-- no more pass than there are
+pub up-short : (p : ℕ → Bool) (k : ℕ) → length (upTo p k) ≤ k
+unfolding upTo
+up-short p zero = omega arith
+up-short p (suc k) = by-test (up-short p k) (p k)
+  where
+    by-test : length (upTo p k) ≤ k → (b : Bool) → length (cond b (upTo p k ++ (k ∷ [])) (upTo p k)) ≤ suc k
+    by-test h true = omega (arith, h, length-append (upTo p k) (k ∷ []))
+    by-test h false = omega (arith, h)
 
 -- ---- what a lent list holds
 pub overlay-none : (entry : List ℕ) → overlay [] entry ≡ entry

@@ -2,16 +2,32 @@
 use mathlib.Core.Path.{_≡_, refl, ap}
 use mathlib.Core.Bool.{Bool, true, false, cond}
 use mathlib.Core.Logic.{_⊎_, ⊎-elim}
-use mathlib.Core.List.{[], _∷_, List·Memᴰ, Memᴰ·cast}
+use mathlib.Core.List.{List, [], _∷_, List·Memᴰ, Memᴰ·cast}
 use Prim.Native.Nat.{ℕ, zero, suc, _+_, _-_, _≤_, _<_}
 use native.Mathlib.Omega.{arith}
 use lib.ListN.{length}
+use lib.Dec.{ltb}
 use borrow.Author.Tests.{lt-ltb, le-ltb}
 use Rattle.fit.specs.Listing.{Rising}
 use Rattle.fit.specs.Listing.Rising.{none}
 use Rattle.fit.specs.Walk.{walkBy, walk, everyWindow}
 use Rattle.fit.proofs.Laws.Bools.{le-or-lt}
 use Rattle.fit.proofs.Laws.Risings.{old-front, new-front, rising-front, rising-from}
+
+-- ---- a walk has no more windows than steps
+step-short : (a b : Bool) (s k : ℕ) (w : List ℕ) → length w ≤ k → length (cond a (cond b (s ∷ w) w) []) ≤ suc k
+step-short true true s k w h = omega (arith, h)
+step-short true false s k w h = omega (arith, h)
+step-short false b s k w h = omega arith
+
+short-by : (tries : ℕ → Bool) (next : ℕ → ℕ) (count k s : ℕ) → length (walkBy tries next count k s) ≤ k
+unfolding walkBy
+short-by tries next count zero s = omega arith
+short-by tries next count (suc k) s = step-short (ltb s count) (tries s) s k (walkBy tries next count k (next s)) (short-by tries next count k (next s))
+
+pub walk-short : (tries : ℕ → Bool) (next : ℕ → ℕ) (count : ℕ) → length (walk tries next count) ≤ count
+unfolding walk
+walk-short tries next count = short-by tries next count count 0
 
 module _ (tries : ℕ → Bool) (next : ℕ → ℕ) (count : ℕ) (forward : (s : ℕ) → s < count → s < next s) where
   -- steps that are enough are enough

@@ -52,6 +52,9 @@ module _ (input : List ℕ) where
       (λ (l : length input < 4 + mIn input). inl (inr (inl l)))
       (le-or-lt (4 + mIn input) (length input))
 
+  pub input-small : ofInput input ≤ 5
+  input-small = ⊎-elim (λ b. omega (arith, input-bad b)) (λ g. omega (arith, input-good g)) bad-or-good
+
   -- No. 5: "input shorter than 4 bytes or than 4 + m, or over 12,000", exactly when
   pub five-exactly : (ofInput input ≡ 5) ↔ BadInput input
   five-exactly =
@@ -97,6 +100,11 @@ module _ (input : List ℕ) where
     pub recording-is : (k : ℕ) → k ≡ 4 + mIn input → take (length input - k) (drop k input) ≡ recordingIn input
     unfolding recordingBy
     recording-is k h = rw (input-good front-good, h) (take-all (length input - (4 + mIn input)) (drop (4 + mIn input) input) (omega (arith, length-drop (4 + mIn input) input)))
+
+  -- the recording is no longer than an input may be
+  pub recording-short : ofInput input ≡ 0 → length (recordingIn input) ≤ maxInput
+  unfolding recordingBy
+  recording-short none = rw none (omega (arith, accepted-input none .short, length-drop (4 + mIn input) input))
 
   module _ {r : Front} (e : r ≡ frontOf input) (some : r .refusal ≡ 0 → ⊥) where
     nothing-by : (f : ℕ → List ℕ) → ((num : ℕ) → f (suc num) ≡ take 0 input) → (num : ℕ) → (num ≡ 0 → ⊥) → f num ≡ take 0 input

@@ -54,6 +54,9 @@ module _ (delta gamma : ℕ) (x y : List ℕ) where
       early (λ ok. omega (arith, none-exactly delta gamma x y .1 ok)) (omega (arith, e)) (omega (arith, e, lowest-given delta gamma x y .2)))
       (le-or-lt (refusalOf delta gamma x y) 0)
 
+  pub packed-small : packedRefusal delta gamma x y ≤ 4
+  packed-small = by-way (λ bad some most. omega (arith, most)) (λ ok more e. omega (arith, e)) (λ ok room e. omega (arith, e))
+
   -- No. 4: "m times the counter width exceeds 64", and no lower number applies
   pub four-exactly : (packedRefusal delta gamma x y ≡ 4) ↔ (Accepted delta gamma x y × (wordBits < bitsOf delta gamma (length x)))
   four-exactly = (

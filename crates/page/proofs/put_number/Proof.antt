@@ -1,5 +1,5 @@
 -- `page::put_number` meets its contract: the digits that `io::decimal` makes are put as a text. Assumes nothing.
-use Rattle.page.proofs.Laws.Pages.{number-put}
+use Rattle.page.proofs.Laws.Numbers.{number-put}
 use borrow.Author.Needs.{needs}
 use Rattle.page.proofs.put_number.Statement.{statement}
 use Rattle.page.proofs.put_number.Tie as tie

@@ -3,13 +3,14 @@ use mathlib.Core.Path.{_≡_, refl}
 use mathlib.Core.Bool.{Bool, true, false, cond, _&&_}
 use mathlib.Core.Logic.{_⊎_, ⊎-elim}
 use mathlib.Core.List.{List, [], _∷_, _++_, List·Memᴰ, List·Memᴰ·not-nil, Memᴰ·append-left, Memᴰ·append-right}
-use Prim.Native.Nat.{ℕ, zero, suc, _+_, _-_, _≤_, _<_}
+use Prim.Native.Nat.{ℕ, zero, suc, _+_, _-_, _*_, _≤_, _<_}
 use native.Mathlib.Nat.{not-suc-le-zero, eq-or-lt-of-le, le-of-suc-le-suc}
 use native.Mathlib.Omega.{arith}
-use lib.ListN.{length, getD}
+use lib.ListN.{length, getD, length-append}
 use lib.Dec.{leb, ltb}
 use borrow.Author.Tests.{le-leb, lt-leb, lt-ltb, le-ltb}
 use Rattle.fit.specs.Rule.{readingAt}
+use Rattle.fit.specs.Refusal.{maxPoints}
 use Rattle.fit.specs.Listing.{Rising}
 use Rattle.fit.specs.Listing.Rising.{none}
 use Rattle.fit.proofs.Laws.Bools.{le-or-lt, and-both}
@@ -20,6 +21,30 @@ use Rattle.fit.proofs.Laws.Alongs.{Along, along-same, along-on}
 use Rattle.skip.specs.Walk.{probed, probes, skipWalk}
 use Rattle.skip.specs.Trying.{TriedAll}
 use Rattle.skip.proofs.Laws.Tryings.{along-all}
+
+-- ---- how long the walk can be, roughly: m windows a probe
+front-short : (b : Bool) (a k : ℕ) (l : List ℕ) → length l ≤ k → length (cond b (a ∷ l) l) ≤ suc k
+front-short true a k l h = omega (arith, h)
+front-short false a k l h = omega (arith, h)
+
+probed-short : (near : ℕ → ℕ → Bool) (m : ℕ) (y : List ℕ) (q i : ℕ) → length (probed near m y q i) ≤ i
+unfolding probed
+probed-short near m y q zero = omega arith
+probed-short near m y q (suc i) = front-short (near i (getD y q 0) && leb (q - i + m) (length y)) (q - i) i (probed near m y q i) (probed-short near m y q i)
+
+probes-short : (near : ℕ → ℕ → Bool) (m : ℕ) (y : List ℕ) (k q : ℕ) → m ≤ maxPoints → length (probes near m y k q) ≤ maxPoints * k
+unfolding probes
+probes-short near m y zero q few = omega arith
+probes-short near m y (suc k) q few = by-test (ltb q (length y)) (probed-short near m y q m) (probes-short near m y k (q + m) few)
+  where
+    by-test : (b : Bool) → length (probed near m y q m) ≤ m → length (probes near m y k (q + m)) ≤ maxPoints * k
+        → length (cond b (probed near m y q m ++ probes near m y k (q + m)) []) ≤ maxPoints * suc k
+    by-test true h l = omega (arith, h, l, few, length-append (probed near m y q m) (probes near m y k (q + m)))
+    by-test false h l = omega arith
+
+pub skip-short : (near : ℕ → ℕ → Bool) (m : ℕ) (y : List ℕ) → m ≤ maxPoints → length (skipWalk near m y) ≤ maxPoints * length y
+unfolding skipWalk
+skip-short near m y few = probes-short near m y (length y) (m - 1) few
 
 module _ (near : ℕ → ℕ → Bool) (m : ℕ) (y : List ℕ) where
   -- the test of point i at the probe q
