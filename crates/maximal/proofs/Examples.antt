@@ -1,4 +1,4 @@
--- E4 of document 01: maximal tries 5 windows. Assumes nothing.
+-- E4 of document 01: maximal tries 5 windows. And a recording of one window. Assumes nothing.
 use mathlib.Core.Path.{_≡_, refl}
 use mathlib.Core.List.{[], _∷_}
 use Rattle.fit.specs.Reading.{near, alike}
@@ -13,3 +13,7 @@ pub E4-walk : maximalWalk (dOf 1 2) (40 ∷ 42 ∷ 44 ∷ []) (40 ∷ 42 ∷ 44 
     ≡ 0 ∷ 2 ∷ 3 ∷ 6 ∷ 10 ∷ []
 unfolding walk walkBy maximalNext comparedJump withLone falling greatest least allBelow someBelow lonely loneAt loneJump earlier agreesAt mismatchAt mismatchJump fullAt fullJump near alike
 E4-walk = refl
+
+pub one-window : maximalWalk 0 (7 ∷ []) (7 ∷ []) ≡ 0 ∷ []
+unfolding walk walkBy maximalNext comparedJump withLone falling greatest least allBelow someBelow lonely loneAt loneJump earlier agreesAt mismatchAt mismatchJump fullAt fullJump near alike
+one-window = refl
