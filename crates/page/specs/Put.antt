@@ -22,6 +22,6 @@ unfoldable pub countFrom : ℕ → ℕ → ℕ → ℕ
 countFrom zero k x = k
 countFrom (suc f) k x = cond (ltb x (10 ^ k)) k (countFrom f (suc k) x)
 
--- x in decimal digits, one at least and no more than it takes; no number has more digits than it has units, or one
+-- x in decimal digits, one at least and no more than it takes; 1 + x counts are enough to look at, since x is below 10 ^ (1 + x)
 unfoldable pub decimal : ℕ → List ℕ
 decimal x = digits 10 (countFrom x 1 x) x

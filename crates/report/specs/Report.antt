@@ -43,6 +43,7 @@ module _ (delta gamma : ℕ) (x y : List ℕ) where
   abbrev pub lineFor : List ℕ → ℕ → ℕ → List ℕ
   lineFor name num tried = lineOf name (outcome num (soughtOf delta gamma x y) tried)
 
+  -- plain and packed count all windows, the others those of their walks
   abbrev pub plainLine : List ℕ
   plainLine = lineFor plainName (refusalOf delta gamma x y) (windows (length x) (length y))
 
@@ -62,6 +63,7 @@ module _ (delta gamma : ℕ) (x y : List ℕ) where
   abbrev pub otherLines : List ℕ
   otherLines = packedLine ++ lastLine ++ skipLine ++ maximalLine
 
+  -- "It writes a line per searcher .. Then come all places found by plain, one to a line"
   abbrev pub reportOn : List ℕ
   reportOn = plainLine ++ otherLines ++ linesOf (foundBy (refusalOf delta gamma x y) (places delta gamma x y))
 
