@@ -10,4 +10,8 @@ pub mod Compiled
 pub mod Steps
 pub mod Answers
 pub mod Alongs
+pub mod Tryings
+pub mod Filters
+pub mod Runs
 pub mod Uniques
+pub mod Entries

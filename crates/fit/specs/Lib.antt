@@ -8,3 +8,4 @@ pub mod Refusal
 pub mod Made
 pub mod Spans
 pub mod Answer
+pub mod Trying

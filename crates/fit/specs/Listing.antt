@@ -1,8 +1,9 @@
 -- Lists of windows, and what a lent list holds after a search. Assumes nothing.
-use Prim.Native.Nat.{ℕ, zero, suc, _≤_}
+use Prim.Native.Nat.{ℕ, zero, suc, _≤_, _<_}
 use mathlib.Core.Bool.{Bool, cond}
+use mathlib.Core.Path.{_≡_}
 use mathlib.Core.List.{List, [], _∷_, _++_}
-use lib.ListN.{length}
+use lib.ListN.{length, getD}
 use Rattle.fit.specs.Place.{isPlace, windows}
 
 -- the numbers below k that pass a test, rising
@@ -29,3 +30,8 @@ pub data Rising : ℕ → List ℕ → Type 0 where
 unfoldable pub those : (ℕ → Bool) → List ℕ → List ℕ
 those p [] = []
 those p (a ∷ l) = cond (p a) (a ∷ those p l) (those p l)
+
+-- a list of n entries: f 0, f 1 and so on
+pub record Entries (f : ℕ → ℕ) (n : ℕ) (l : List ℕ) : Type 0 where
+  pub long : length l ≡ n
+  pub each : (j : ℕ) → j < n → getD l j 0 ≡ f j

@@ -1,2 +1,1 @@
-pub mod Tryings
 pub mod Walks

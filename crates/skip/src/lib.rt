@@ -8,7 +8,7 @@ ghost use Rattle.fit.specs.Place.{fitOf, dOf};
 ghost use Rattle.fit.specs.Spans.{ruleIn, Ready};
 ghost use Rattle.fit.specs.Answer.{soughtBy, lent, begun, Answer, Answers};
 ghost use Rattle.skip.specs.Walk.{probed, skipWalk};
-ghost use Rattle.skip.specs.Trying.{TriedAll};
+ghost use Rattle.fit.specs.Trying.{TriedAll};
 
 // Lists the places of the profile in the recording, and counts them and the windows tried.
 pub fn search(points: &[u8], delta: u32, gamma: u32, recording: &[u8], list: &mut [u32]) -> Search

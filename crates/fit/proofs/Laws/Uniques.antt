@@ -1,5 +1,18 @@
 -- No second result: what satisfies a contract of the form `r ≡ definition` is that one value. (For searches: Laws.Answers.) Assumes nothing.
-use mathlib.Core.Path.{_≡_, sym, _∙_}
+use mathlib.Core.Path.{_≡_, refl, sym, ap₂, _∙_}
+use mathlib.Core.List.{List, [], _∷_}
+use Prim.Native.Nat.{ℕ, suc, _<_}
+use native.Mathlib.Omega.{arith}
+use lib.ListN.{length, getD}
 
 pub no-second-value : {A : Type 0} (definition r r′ : A) → r ≡ definition → r′ ≡ definition → r ≡ r′
 no-second-value definition r r′ e e′ = e ∙ sym e′
+
+-- lists of one length that agree at each entry are one list
+pub same-lists : (l l′ : List ℕ) → length l ≡ length l′ → ((i : ℕ) → i < length l → getD l i 0 ≡ getD l′ i 0) → l ≡ l′
+same-lists [] [] e f = refl
+same-lists [] (a ∷ l′) e f = absurd (omega (arith, e))
+same-lists (a ∷ l) [] e f = absurd (omega (arith, e))
+same-lists (a ∷ l) (a′ ∷ l′) e f =
+    let shorter : length l ≡ length l′ = omega (arith, e) in
+    ap₂ (λ (b : ℕ) (t : List ℕ). b ∷ t) (f 0 (omega arith)) (same-lists l l′ shorter (λ i h. f (suc i) (omega arith)))

@@ -19,8 +19,8 @@ use Rattle.fit.specs.Answer.{Sought, Lent}
 use Rattle.fit.specs.declared.answer.Search.{Search}
 use Rattle.fit.proofs.Laws.Alongs.{Along, along-same, along-on}
 use Rattle.skip.specs.Walk.{probed, probes, skipWalk}
-use Rattle.skip.specs.Trying.{TriedAll}
-use Rattle.skip.proofs.Laws.Tryings.{along-all}
+use Rattle.fit.specs.Trying.{TriedAll}
+use Rattle.fit.proofs.Laws.Tryings.{along-all}
 
 -- ---- how long the walk can be, roughly: m windows a probe
 front-short : (b : Bool) (a k : ℕ) (l : List ℕ) → length l ≤ k → length (cond b (a ∷ l) l) ≤ suc k

@@ -8,7 +8,7 @@ use Rattle.fit.specs.Rule.{nearBy}
 use Rattle.fit.specs.Spans.{ruleIn, Ready}
 use Rattle.fit.specs.Answer.{soughtBy, lent}
 use Rattle.skip.specs.Walk.{probed}
-use Rattle.skip.proofs.Laws.Tryings.{Trying, trying-start, trying-next, trying-pass, trying-end}
+use Rattle.fit.proofs.Laws.Tryings.{Trying, trying-start, trying-next, trying-pass, trying-end}
 use Rattle.skip.proofs.Laws.Walks.{probed-try, probed-far, probed-out, probed-none}
 use Rattle.skip.proofs.try_probed.Statement.{statement}
 use Rattle.skip.proofs.try_probed.Tie as tie

@@ -1,9 +1,9 @@
 -- Several windows tried one after the other: the counts, and what was lent. Assumes nothing.
-use Prim.Native.Nat.{ℕ}
+use Prim.Native.Nat.{ℕ, zero, suc, _+_}
 use mathlib.Core.Path.{_≡_}
 use mathlib.Core.List.{List, [], _∷_}
 use Rattle.fit.specs.Answer.{Sought, Lent, noted, listed}
 use Rattle.fit.specs.declared.answer.Search.{Search}
 
 unfoldable pub countsAfter : Sought → List ℕ → Search → Search
 countsAfter t [] r = r
@@ -17,3 +17,12 @@ listsAfter t (s ∷ ws) r l = listsAfter t ws (noted (t .place s) r) (listed (t 
 pub record TriedAll (t : Sought) (ws : List ℕ) (before : Search) (entry : Lent) (r : Search) (final : Lent) : Type 0 where
   pub counts : r ≡ countsAfter t ws before
   pub lists : final ≡ listsAfter t ws before entry
+
+-- k windows more were tried, and none of them is a place
+abbrev pub missed : ℕ → Search → Search
+missed k r = record { refusal = r .refusal; total = r .total; tried = r .tried + k }
+
+-- the k windows from s on
+unfoldable pub run : ℕ → ℕ → List ℕ
+run s zero = []
+run s (suc k) = s ∷ run (s + 1) k

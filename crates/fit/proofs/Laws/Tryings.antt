@@ -1,15 +1,15 @@
 -- Laws of several windows tried one after the other. Nobody else opens these definitions. Assumes nothing.
-use mathlib.Core.Path.{_≡_, refl, ap, _∙_}
+use mathlib.Core.Path.{_≡_, refl, sym, ap, _∙_}
 use mathlib.Core.List.{List, [], _∷_, _++_}
 use Prim.Native.Nat.{ℕ, suc, _+_, _≤_, _<_}
 use native.Mathlib.Nat.{le-refl}
 use native.Mathlib.Omega.{arith}
 use lib.ListN.{length}
-use Rattle.fit.specs.Answer.{Sought, Lent, Tried}
+use Rattle.fit.specs.Answer.{Sought, Lent, lent, Tried}
 use Rattle.fit.specs.declared.answer.Search.{Search}
 use Rattle.fit.proofs.Laws.Answers.{tried-one, order-one}
 use Rattle.fit.proofs.Laws.Alongs.{Along, along-tried, along-on, listed-long}
-use Rattle.skip.specs.Trying.{countsAfter, listsAfter, TriedAll}
+use Rattle.fit.specs.Trying.{countsAfter, listsAfter, TriedAll}
 
 pub tried-none : (t : Sought) (r : Search) (l : Lent) → TriedAll t [] r l r l
 unfolding countsAfter listsAfter
@@ -20,6 +20,12 @@ pub tried-first : (t : Sought) (s : ℕ) (ws : List ℕ) {before r₁ r : Search
     → Tried t s before entry r₁ l₁ → TriedAll t ws r₁ l₁ r final → TriedAll t (s ∷ ws) before entry r final
 unfolding countsAfter listsAfter
 tried-first t s ws a b = record { counts = rw (← a .counts) (b .counts); lists = rw (← a .counts, ← a .lists) (b .lists) }
+
+-- no second result of several windows
+pub no-second-tried : (t : Sought) (ws : List ℕ) (before : Search) (entry : Lent) (r r′ : Search) (l l′ : List ℕ)
+    → TriedAll t ws before entry r (lent l) → TriedAll t ws before entry r′ (lent l′) → (r ≡ r′) × (l ≡ l′)
+no-second-tried t ws before entry r r′ l l′ a b =
+    (a .counts ∙ sym (b .counts), ap (λ (v : Lent). v .list) (a .lists ∙ sym (b .lists)))
 
 -- a walk whose next windows are these
 pub along-all : (t : Sought) (ws : List ℕ) (bound : ℕ) {walk rest : List ℕ} {entry held held′ : Lent} {before r : Search}
@@ -60,6 +66,16 @@ trying-pass t bound bound′ f e h = record {
   long = f .long;
   rest = λ r final b. f .rest r final (rw e b);
 }
+
+-- several of them at once
+pub trying-all : (t : Sought) (ws : List ℕ) (bound bound′ : ℕ) {whole rest : List ℕ} {entry held held′ : Lent} {before found r : Search}
+    → Trying t whole (ws ++ rest) bound entry held before found → TriedAll t ws found held r held′ → bound + length ws ≤ bound′
+    → Trying t whole rest bound′ entry held′ before r
+unfolding countsAfter listsAfter
+trying-all t [] bound bound′ f a h = rw (a .counts, a .lists) (trying-pass t bound bound′ f refl (omega arith))
+trying-all t (s ∷ ws) bound bound′ f a h =
+    trying-all t ws (suc bound) bound′ (trying-next t s bound (suc bound) f refl (record { counts = refl; lists = refl }) (le-refl (suc bound)))
+    (record { counts = a .counts; lists = a .lists }) (omega arith)
 
 pub trying-end : (t : Sought) (bound : ℕ) {whole left : List ℕ} {entry held : Lent} {before found : Search}
     → Trying t whole left bound entry held before found → left ≡ [] → TriedAll t whole before entry found held
