@@ -8,4 +8,5 @@ pub use check::count_windows;
 pub use check::is_place;
 pub use spans::may_stand;
 pub use trying::note;
+pub use trying::note_none;
 pub use trying::try_at;

@@ -6,6 +6,7 @@ ghost use lib.ListN.{length, set};
 ghost use Rattle.fit.specs.Refusal.{maxPoints, maxGamma};
 ghost use Rattle.fit.specs.Spans.{ruleIn};
 ghost use Rattle.fit.specs.Answer.{soughtBy, lent, Noted, Tried};
+ghost use Rattle.fit.specs.Trying.{missed};
 
 // Writes the place s as entry `at` of the list, if it goes that far.
 fn put(list: &mut [u32], at: usize, s: usize)
@@ -34,6 +35,18 @@ pub fn note(list: &mut [u32], s: usize, hit: bool, before: Search) -> Search
         refusal: before.refusal,
         total: before.total,
         tried: before.tried + 1,
+    }
+}
+
+// k windows more were tried, and none of them is a place.
+pub fn note_none(k: usize, before: Search) -> Search
+    requires { ⌜ (k < 2 ^ 32) × (before .tried < 2 ^ 32) ⌝ }
+    ensures { λ r. ⌜ r ≡ missed k before ⌝ }
+{
+    Search {
+        refusal: before.refusal,
+        total: before.total,
+        tried: before.tried + k,
     }
 }
 
