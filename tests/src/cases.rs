@@ -52,7 +52,7 @@ const ENDS: [u8; 8] = [0, 1, 2, 3, 252, 253, 254, 255];
 /// A profile and a recording; the length of the lent list is drawn afterwards.
 type Made = (Profile, Vec<u8>);
 
-const KINDS: [fn(&mut Draw) -> Made; 14] = [
+const KINDS: [fn(&mut Draw) -> Made; 16] = [
     few_readings,
     ends_of_the_readings,
     sums_about_gamma,
@@ -66,6 +66,8 @@ const KINDS: [fn(&mut Draw) -> Made; 14] = [
     smooth_recording,
     repeating_profile,
     no_tolerance,
+    block_borders,
+    block_borders_all_near,
     refused,
 ];
 
@@ -315,6 +317,88 @@ fn no_tolerance(draw: &mut Draw) -> Made {
     (profile(draw.readings(m, alphabet), delta, gamma), draw.readings(n, alphabet))
 }
 
+/// A searcher may take this many windows at a time, and then the rest one by one.
+const BLOCK: usize = 64;
+
+/// As many windows as fill a block or two, one fewer and one more; now and then three blocks, one window or none.
+fn windows_about_blocks(draw: &mut Draw) -> usize {
+    match draw.from(0, 9) {
+        0 => draw.one_of(&[191, 192, 193, 0, 1]),
+        _ => draw.one_of(&[63, 64, 65, 127, 128, 129]),
+    }
+}
+
+/// The first and last windows of blocks, and the very last window; all of them, or just one.
+fn some_borders(draw: &mut Draw, windows: usize) -> Vec<usize> {
+    let borders: Vec<usize> = (0..windows).filter(|s| s % BLOCK == 0 || s % BLOCK == BLOCK - 1 || s + 1 == windows).collect();
+    match draw.from(0, 3) {
+        0 => borders,
+        1 => borders.into_iter().filter(|_| draw.from(0, 1) == 0).collect(),
+        _ if borders.is_empty() => borders,
+        _ => vec![draw.one_of(&borders)],
+    }
+}
+
+/// Most readings suit no point, so that most blocks have no place. Windows at borders have the sum gamma or less, and those beside them
+/// are places as well, or have the sum gamma + 1, or one reading that is one too far.
+fn block_borders(draw: &mut Draw) -> Made {
+    let windows = windows_about_blocks(draw);
+    let m = draw.one_of(&[1, 2, 3, 8, 20, 64]);
+    let delta = draw.number(1, 6);
+    let gamma = draw.number(1, delta * m as u32);
+    // points that are close to each other are near the readings of the window beside theirs
+    let spread = draw.one_of(&[0, 0, 1, 9]);
+    let alphabet: Vec<u8> = (100..=100 + spread).collect();
+    let profile = profile(draw.readings(m, &alphabet), delta, gamma);
+    let mut recording = draw.readings(windows + m - 1, &[&ANY[..80], &ANY[130..]].concat());
+    for s in some_borders(draw, windows) {
+        let sum = draw.one_of(&[gamma, gamma, gamma - 1, 0]);
+        let window = window_of_sum(draw, &profile.points, delta, sum);
+        recording[s..s + m].copy_from_slice(&window);
+        if s > 0 && draw.from(0, 1) == 0 {
+            recording[s - 1] = reading_beside(draw, &profile, true, &recording[s..s + m - 1]);
+        }
+        if s + 1 < windows && draw.from(0, 1) == 0 {
+            recording[s + m] = reading_beside(draw, &profile, false, &recording[s + 1..s + m]);
+        }
+    }
+    (profile, recording)
+}
+
+/// The first or the last reading of a window of which the rest stands. It makes the sum gamma or gamma + 1, as far as one reading can, or
+/// it is one too far.
+fn reading_beside(draw: &mut Draw, profile: &Profile, first: bool, rest: &[u8]) -> u8 {
+    let points = &profile.points;
+    let (point, others) = if first { points.split_first() } else { points.split_last() }.unwrap();
+    let sum: u32 = others.iter().zip(rest).map(|(x, y)| x.abs_diff(*y) as u32).sum();
+    let left = profile.gamma.saturating_sub(sum);
+    let too_far = profile.delta + 1;
+    let difference = draw.one_of(&[left, left + 1, too_far]).min(too_far) as u8;
+    draw.one_of(&[point - difference, point + difference])
+}
+
+/// Every difference is at most delta, and the sums decide: small ones, about 256, or the greatest there are. Only the first and the last
+/// reading of windows at borders are closer, so that the sum there is gamma or gamma + 1. Now and then every sum is within gamma, or
+/// gamma + 1 but where there is a closer reading.
+fn block_borders_all_near(draw: &mut Draw) -> Made {
+    let windows = windows_about_blocks(draw);
+    let m = draw.one_of(&[1, 2, 3, 8, 20, 64, 64, 64]);
+    let far = draw.one_of(&[2, 3, 256 / m as u32, 255, 255]).min(255);
+    let closer = draw.number(1, (far / 2).min(3));
+    // a window of one point has one reading that is closer, any other two
+    let less = closer * m.min(2) as u32;
+    let gamma = m as u32 * far - draw.one_of(&[0, 1, less, less, less + 1]);
+    let delta = draw.one_of(&[far, 255]);
+    let upward = draw.from(0, 1) == 0;
+    let reading = |difference: u32| if upward { difference as u8 } else { 255 - difference as u8 };
+    let mut recording = vec![reading(far); windows + m - 1];
+    for s in some_borders(draw, windows) {
+        recording[s] = reading(far - closer);
+        recording[s + m - 1] = reading(far - closer);
+    }
+    (profile(vec![reading(0); m], delta, gamma), recording)
+}
+
 const BAD_M: [usize; 6] = [0, 0, 65, 66, 128, 300];
 const BAD_DELTA: [u32; 5] = [256, 256, 257, 70_000, u32::MAX];
 const BAD_GAMMA: [u32; 5] = [16_321, 16_321, 16_322, 1 << 31, u32::MAX];
@@ -352,15 +436,48 @@ mod coverage {
     use crate::frames;
     use crate::reference::{counter_width, places, refusal_of_profile, refusal_of_search, Searcher};
 
-    /// The case's sums of differences at windows whose differences are all at most delta.
-    fn near_sums(case: &Case) -> Vec<u32> {
-        let points = &case.profile.points;
-        case.recording
-            .windows(points.len().max(1))
-            .map(|window| window.iter().zip(points).map(|(y, x)| y.abs_diff(*x) as u32).collect::<Vec<u32>>())
-            .filter(|differences| differences.iter().all(|&difference| difference <= case.profile.delta))
-            .map(|differences| differences.iter().sum())
-            .collect()
+    /// The sum of differences at a window, if they are all at most delta.
+    fn near_sum(profile: &Profile, window: &[u8]) -> Option<u32> {
+        let differences = window.iter().zip(&profile.points).map(|(y, x)| y.abs_diff(*x) as u32);
+        differences.clone().all(|difference| difference <= profile.delta).then(|| differences.sum())
+    }
+
+    /// The case's sums of differences at windows whose differences are all at most delta, each with its window.
+    fn near_sums(case: &Case) -> Vec<(i64, u32)> {
+        let windows = case.recording.windows(case.profile.points.len().max(1));
+        (0..).zip(windows).filter_map(|(s, window)| Some((s, near_sum(&case.profile, window)?))).collect()
+    }
+
+    /// Where places, sums and the end of the list stand among blocks of windows; what is less than 64 windows is no block.
+    fn block_situations(case: &Case, found: &[i64], near: &[(i64, u32)]) -> Vec<(&'static str, bool)> {
+        let block = BLOCK as i64;
+        let windows = (case.recording.len() + 1).saturating_sub(case.profile.points.len()) as i64;
+        let whole = |s: i64| s / block < windows / block;
+        let first = |s: i64| whole(s) && s % block == 0;
+        let last = |s: i64| whole(s) && s % block == block - 1;
+        // the last place that the list has, and the one after it
+        let ends = case.room.checked_sub(1).and_then(|k| found.get(k..k + 2));
+        let gamma = case.profile.gamma;
+        let all_near = near.len() as i64 == windows;
+        vec![
+            ("block: 63 windows", windows == 63),
+            ("block: 64 windows", windows == 64),
+            ("block: 65 windows", windows == 65),
+            ("block: 127 windows", windows == 127),
+            ("block: 128 windows", windows == 128),
+            ("block: 129 windows", windows == 129),
+            ("block: place at its first window", found.iter().any(|&s| first(s))),
+            ("block: place at its last window", found.iter().any(|&s| last(s))),
+            ("block: the only place, at its first window", found.len() == 1 && first(found[0])),
+            ("block: the only place, at its last window", found.len() == 1 && last(found[0])),
+            ("block: sum gamma + 1 at its first window", near.iter().any(|&(s, sum)| first(s) && sum == gamma + 1)),
+            ("block: sum gamma + 1 at its last window", near.iter().any(|&(s, sum)| last(s) && sum == gamma + 1)),
+            ("block: list ends inside", ends.is_some_and(|s| s[0] / block == s[1] / block && whole(s[0]))),
+            ("block: all windows are places", windows >= block && found.len() as i64 == windows),
+            ("block: all windows near, few places", windows >= block && all_near && (1..9).contains(&found.len())),
+            ("block: sums about gamma above 16,000", near.iter().any(|&(s, sum)| whole(s) && sum > gamma && gamma > 16_000)),
+            ("block: place behind the last one", windows > block && found.iter().any(|&s| !whole(s))),
+        ]
     }
 
     /// What the default run must contain: each line is a situation, and at least so many cases must be in it.
@@ -385,7 +502,8 @@ mod coverage {
                 continue;
             }
             let found = places(&case.profile, &case.recording);
-            let sums = near_sums(&case);
+            let near = near_sums(&case);
+            let sums: Vec<u32> = near.iter().map(|&(_, sum)| sum).collect();
             let bits = m as i64 * counter_width(case.profile.g());
             meets("m is 1", m == 1);
             meets("m is 64", m == 64);
@@ -411,11 +529,18 @@ mod coverage {
             meets("constant", n > 0 && case.recording.iter().all(|&y| y == case.recording[0]));
             meets("reading 0", case.recording.contains(&0));
             meets("reading 255", case.recording.contains(&255));
+            for (situation, yes) in block_situations(&case, &found, &near) {
+                meets(situation, yes);
+            }
         }
         for (situation, count) in met {
             println!("{count:5} {situation}");
             // long recordings are few, since they take most of the time
-            let least = if ["refusal 3", "n is the greatest"].contains(&situation) { 1 } else { 3 };
+            let least = match situation {
+                "refusal 3" | "n is the greatest" => 1,
+                _ if situation.starts_with("block") => 8,
+                _ => 3,
+            };
             assert!(count >= least, "{situation}: {count}");
         }
     }
