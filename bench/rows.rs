@@ -1,0 +1,100 @@
+//! The rows of the table: which profile is searched for in which recording. They are the same in every run.
+
+pub const READINGS: usize = 1_000_000;
+const WIDE: u32 = 16_320;
+
+/// One line of the table.
+pub struct Row<'a> {
+    pub name: &'a str,
+    pub points: Vec<u8>,
+    pub delta: u32,
+    pub gamma: u32,
+    pub recording: &'a [u8],
+}
+
+impl Row<'_> {
+    /// Whether refusal 4 is due: m counters of 1 + b bits, b the least with 2^b > g, exceed a word.
+    pub fn too_wide(&self) -> bool {
+        let m = self.points.len() as u32;
+        let g = self.gamma.min(m * self.delta.min(self.gamma));
+        let b = (0..).find(|b| 1 << b > g).unwrap();
+        m * (1 + b) > 64
+    }
+}
+
+pub struct Recordings {
+    random: Vec<u8>,
+    smooth: Vec<u8>,
+    constant: Vec<u8>,
+}
+
+impl Recordings {
+    pub fn new() -> Recordings {
+        Recordings { random: random_recording(), smooth: smooth_recording(), constant: vec![100; READINGS] }
+    }
+
+    pub fn rows(&self) -> Vec<Row<'_>> {
+        let mut rows = Vec::new();
+        for (name, recording) in [("random", &self.random), ("smooth", &self.smooth)] {
+            for (delta, small) in [(5, false), (5, true), (20, false), (20, true)] {
+                for m in [8, 10, 20, 64] {
+                    // the profile is a window of the recording, so there is a place
+                    let points = recording[READINGS / 2..READINGS / 2 + m].to_vec();
+                    let gamma = if small { 2 * m as u32 } else { WIDE };
+                    rows.push(Row { name, points, delta, gamma, recording });
+                }
+            }
+        }
+        for m in [8, 20, 64] {
+            rows.extend(self.worst_cases(m));
+        }
+        rows
+    }
+
+    /// Every window a place, with wide tolerances and with none; the last point, then the first, never near; all near with a sum of 2.
+    fn worst_cases(&self, m: usize) -> [Row<'_>; 5] {
+        let all = vec![100; m];
+        let with = |changed: &[usize], reading: u8| {
+            let mut points = all.clone();
+            changed.iter().for_each(|at| points[*at] = reading);
+            points
+        };
+        [
+            ("constant, all places", all.clone(), 5, WIDE),
+            ("constant, all places", all.clone(), 0, 0),
+            ("constant, last point far", with(&[m - 1], 200), 5, WIDE),
+            ("constant, first point far", with(&[0], 200), 5, WIDE),
+            ("constant, sum one too large", with(&[m / 2, m - 1], 101), 1, 1),
+        ]
+        .map(|(name, points, delta, gamma)| Row { name, points, delta, gamma, recording: &self.constant })
+    }
+}
+
+/// xorshift64*: the same recordings in every run.
+struct Random(u64);
+
+impl Random {
+    fn next(&mut self) -> u32 {
+        self.0 ^= self.0 >> 12;
+        self.0 ^= self.0 << 25;
+        self.0 ^= self.0 >> 27;
+        (self.0.wrapping_mul(0x2545_f491_4f6c_dd1d) >> 32) as u32
+    }
+}
+
+fn random_recording() -> Vec<u8> {
+    let mut random = Random(1);
+    (0..READINGS).map(|_| random.next() as u8).collect()
+}
+
+/// Steps of -4 to 4, held at 0 and 255.
+fn smooth_recording() -> Vec<u8> {
+    let mut random = Random(2);
+    let mut level = 128;
+    (0..READINGS)
+        .map(|_| {
+            level = (level + (random.next() % 9) as i32 - 4).clamp(0, 255);
+            level as u8
+        })
+        .collect()
+}
