@@ -5,19 +5,21 @@
  * most delta, and the sum of the m differences at most gamma. Positions and places count from 0.
  *
  * Who checks what. The library checks every value: it takes any points, any recording, any delta and gamma, any reading and any point
- * number, and answers or refuses by a number (below); nothing a caller can pass as a value makes it fail, and it keeps nothing after
- * it returns. What it answers is proved, for every input. The caller answers for the memory, which the library cannot check:
+ * number, and answers or refuses by a number (below); nothing a caller can pass as a value makes it fail. It allocates nothing, and keeps
+ * nothing after it returns. What it answers is proved, for every input. The caller answers for the memory, which the library cannot check:
  *   - a pointer and the length behind it name that many entries, of a recording or profile to be read, of a list to be written;
- *   - the list shares no memory with the points or the recording, and nothing else writes any of them during the call.
- * A length of 0 is allowed everywhere; nothing is then read or written through its pointer.
- * The functions have no state and may be called from several threads at once.
+ *   - the list shares no memory with the points or the recording, nothing else writes any of them during the call, and nothing else
+ *     reads the list.
+ * Where a length is 0, nothing is read or written through its pointer, which may be NULL.
+ * The functions have no state and may be called from several threads at once. They are compiled for 64-bit processors: size_t has 64 bits.
  *
  * Refusals: the lowest number that applies. A refused call has counts and jump 0 and leaves the list as it was.
  *   0  accepted
  *   1  the profile has no points, or more than 64
  *   2  delta is above 255, or gamma above 16,320
  *   3  the recording has more than 1,000,000 readings (searchers)
- *   4  the counters do not fit one word: m times their width exceeds 64 (jilbaroof_packed)
+ *   4  the counters do not fit one word: m times their width exceeds 64 (jilbaroof_packed). The width is 1 + b, b the least with 2^b
+ *      above the smaller of gamma and m times d, d the smaller of delta and gamma
  *   6  the point number is 0 or above m (jilbaroof_mismatch)
  * (5 belongs to the program `places` and is never given here.)
  */
@@ -51,7 +53,8 @@ typedef struct {
 jilbaroof_search jilbaroof_plain(const uint8_t *points, size_t m, uint32_t delta, uint32_t gamma,
                                  const uint8_t *recording, size_t n, uint32_t *list, size_t room);
 
-/* Keeps a counter for each point, side by side in one 64-bit word; its time does not depend on the readings. May refuse by 4. */
+/* Keeps a counter for each point, side by side in one 64-bit word, and reads each reading once, whatever came before; so its time hardly
+ * depends on the readings, but for the places that it finds and lists. May refuse by 4. */
 jilbaroof_search jilbaroof_packed(const uint8_t *points, size_t m, uint32_t delta, uint32_t gamma,
                                   const uint8_t *recording, size_t n, uint32_t *list, size_t room);
 
@@ -82,7 +85,9 @@ jilbaroof_jump jilbaroof_after_check(const uint8_t *points, size_t m, uint32_t d
 /* All points of the window were near. */
 jilbaroof_jump jilbaroof_full(const uint8_t *points, size_t m, uint32_t delta, uint32_t gamma);
 
-/* Point number p (1 to m) was not near, and all points that are compared before it were. */
+/* Point number p (1 to m) was not near, and all points that are compared before it were. The lone jump of point q is the least k from 1 on
+ * for which there is no point q - k, or some reading is near point q - k and not near point q. Points are compared by falling lone jump,
+ * and of two with the same the one of the higher number first. */
 jilbaroof_jump jilbaroof_mismatch(const uint8_t *points, size_t m, uint32_t delta, uint32_t gamma, size_t p);
 
 #ifdef __cplusplus
