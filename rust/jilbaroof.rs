@@ -1,9 +1,13 @@
-//! Jilbaroof for Rust: a safe wrapper of the proved library, standard library only. tools/archive builds it, as the library `jilbaroof`.
+//! Jilbaroof for Rust: a safe wrapper of the proved library, standard library only. tools/archive builds it, as the library `jilbaroof`;
+//! or it is a module of the crate that links the archive (README, "From C and Rust").
 //!
 //! Which side checks what. The library checks every value (points, tolerances, lengths, point numbers) and answers or refuses by a
-//! number; that each answer is the one its definition gives is proved. What it takes for granted is memory: that a slice is valid for its
-//! length, and that the lent list shares no memory with what is read. Rust's types guarantee just that, so nothing is checked here,
-//! and every function is safe for every argument. The calls below are the only `unsafe` code.
+//! number, which README lists; that each answer is the one its definition gives is proved. What it takes for granted is memory: that a
+//! slice is valid for its length, and that the lent list shares no memory with what is read. Rust's types guarantee just that, so nothing
+//! is checked here, and every function is safe for every argument. The calls below are the only `unsafe` code.
+
+// as a module it may have functions that its crate does not use
+#![allow(dead_code)]
 
 /// What a search answers: the number of its refusal and zeros; or 0, the total of places and the count of windows tried.
 #[repr(C)]
