@@ -1,10 +1,10 @@
-//! Calls every function of rust/jilbaroof.rs, and holds the answers to the sheet of the specification.
+//! Calls every function of rust/jilbaroof.rs, and holds the answers to the sheet of the specification, to its refusals and to its limits.
 use jilbaroof::{Jump, Search, Searcher};
 
 const P: [u8; 3] = [40, 42, 44];
 const L: [u8; 14] = [40, 42, 44, 41, 43, 45, 39, 42, 43, 70, 41, 41, 43, 40];
 
-/// E4 and E5 with room for all, E4 with less and with none, and the refusals, which leave the list alone.
+/// E4 and E5 with room for all, and E4 with less and with none.
 fn search(name: &str, ask: Searcher, tried: usize) {
     let mut list = [9; 5];
     assert_eq!(ask(&P, 1, 2, &L, &mut list), Search { refusal: 0, total: 2, tried }, "{name}");
@@ -15,15 +15,18 @@ fn search(name: &str, ask: Searcher, tried: usize) {
     assert_eq!(ask(&P, 1, 2, &L, &mut short).total, 2, "{name}");
     assert_eq!(short, [0], "{name}");
     assert_eq!(ask(&P, 1, 2, &L, &mut []).total, 2, "{name}");
-    assert_eq!(ask(&P, 1, 2, &[], &mut []), Search { refusal: 0, total: 0, tried: 0 }, "{name}");
+}
 
-    let long = vec![0; 1_000_001];
+/// Refusals 1 to 3, the lowest that applies, by numbers that a narrower type would cut to allowed ones too; the list stays as it was.
+fn search_refused(name: &str, ask: Searcher, many: &[u8]) {
     for (number, points, delta, gamma, recording) in [
-        (1, &P[..0], 256, 16_321, &long[..]),
-        (1, &long[..65], 1, 2, &L[..]),
-        (2, &P[..], 256, 2, &long[..]),
+        (1, &P[..0], 256, 16_321, many),
+        (1, &many[..65], 1, 2, &L[..]),
+        (2, &P[..], 256, 2, many),
+        (2, &P[..], 65_537, 2, &L[..]),
         (2, &P[..], 1, 16_321, &L[..]),
-        (3, &P[..], 1, 2, &long[..]),
+        (2, &P[..], 1, 65_538, &L[..]),
+        (3, &P[..], 1, 2, many),
     ] {
         let mut list = [9; 5];
         let refused = Search { refusal: number, total: 0, tried: 0 };
@@ -32,31 +35,69 @@ fn search(name: &str, ask: Searcher, tried: usize) {
     }
 }
 
-fn main() {
-    search("plain", jilbaroof::plain, 12);
-    search("packed", jilbaroof::packed, 12);
-    search("last", jilbaroof::last, 5);
-    search("skip", jilbaroof::skip, 6);
-    search("maximal", jilbaroof::maximal, 5);
-    assert_eq!(jilbaroof::packed(&[0; 16], 1, 7, &L, &mut []).refusal, 0);
-    assert_eq!(jilbaroof::packed(&[0; 16], 1, 8, &L, &mut []).refusal, 4);
+/// What is just allowed: no reading, fewer than points, as many; 64 points; the widest tolerances; a million readings.
+fn search_limits(name: &str, ask: Searcher, many: &[u8]) {
+    let found = |total, tried| Search { refusal: 0, total, tried };
+    let mut list = [9; 1];
+    assert_eq!(ask(&P, 1, 2, &[], &mut []), found(0, 0), "{name}");
+    assert_eq!(ask(&P, 1, 2, &L[..2], &mut list), found(0, 0), "{name}");
+    assert_eq!(list, [9], "{name}");
+    assert_eq!(ask(&P, 1, 2, &L[..3], &mut list), found(1, 1), "{name}");
+    assert_eq!(list, [0], "{name}");
+    assert_eq!(ask(&many[..64], 0, 0, &many[..64], &mut []), found(1, 1), "{name}");
+    let all = ask(&P, 255, 16_320, &L, &mut []);
+    assert_eq!((all.refusal, all.total), (0, 12), "{name}");
+    let none = ask(&P, 1, 2, &many[..1_000_000], &mut []);
+    assert_eq!((none.refusal, none.total), (0, 0), "{name}");
+}
 
+fn question_refused(ask: fn(&[u8], u32, u32) -> Jump) {
+    for (number, points, delta, gamma) in [
+        (1, &[][..], 256, 16_321),
+        (1, &[0; 65][..], 1, 2),
+        (2, &P[..], 256, 2),
+        (2, &P[..], 65_537, 2),
+        (2, &P[..], 1, 16_321),
+        (2, &P[..], 1, 65_538),
+    ] {
+        assert_eq!(ask(points, delta, gamma), Jump { refusal: number, jump: 0 });
+    }
+}
+
+fn main() {
+    let many = vec![0; 1_000_001];
+    for (name, ask, tried) in [
+        ("plain", jilbaroof::plain as Searcher, 12),
+        ("packed", jilbaroof::packed, 12),
+        ("last", jilbaroof::last, 5),
+        ("skip", jilbaroof::skip, 6),
+        ("maximal", jilbaroof::maximal, 5),
+    ] {
+        search(name, ask, tried);
+        search_refused(name, ask, &many);
+        search_limits(name, ask, &many);
+    }
+    assert_eq!(jilbaroof::packed(&[0; 16], 1, 7, &L, &mut []).refusal, 0);
+    assert_eq!(jilbaroof::packed(&[0; 16], 1, 8, &L, &mut []), Search { refusal: 4, total: 0, tried: 0 });
+    assert_eq!(jilbaroof::packed(&[0; 16], 1, 8, &many, &mut []).refusal, 3);
+
+    question_refused(|x, delta, gamma| jilbaroof::last_reading(x, delta, gamma, 44));
+    question_refused(|x, delta, gamma| jilbaroof::next_reading(x, delta, gamma, 44));
+    question_refused(jilbaroof::after_check);
+    question_refused(jilbaroof::full);
+    question_refused(|x, delta, gamma| jilbaroof::mismatch(x, delta, gamma, 0));
     let jump = |jump| Jump { refusal: 0, jump };
     let refused = |refusal| Jump { refusal, jump: 0 };
     for (a, k) in [(44, 0), (41, 1), (40, 2), (70, 3)] {
         assert_eq!(jilbaroof::last_reading(&P, 1, 2, a), jump(k));
         assert_eq!(jilbaroof::next_reading(&P, 1, 2, a), jump(k + 1));
     }
-    assert_eq!(jilbaroof::after_check(&P, 1, 2), jump(1));
-    assert_eq!(jilbaroof::full(&P, 1, 2), jump(1));
+    assert_eq!(jilbaroof::after_check(&[10, 20, 20], 1, 2), jump(1));
+    assert_eq!(jilbaroof::full(&[10, 20, 20], 1, 2), jump(3));
     assert_eq!(jilbaroof::mismatch(&[6, 5], 1, 2, 2), jump(1));
     assert_eq!(jilbaroof::mismatch(&[255, 254], 1, 2, 2), jump(2));
     assert_eq!(jilbaroof::mismatch(&P, 1, 2, 0), refused(6));
     assert_eq!(jilbaroof::mismatch(&P, 1, 2, 4), refused(6));
-    assert_eq!(jilbaroof::mismatch(&[], 256, 2, 0), refused(1));
-    assert_eq!(jilbaroof::last_reading(&[], 1, 2, 0), refused(1));
-    assert_eq!(jilbaroof::next_reading(&P, 256, 2, 0), refused(2));
-    assert_eq!(jilbaroof::after_check(&P, 1, 16_321), refused(2));
-    assert_eq!(jilbaroof::full(&[0; 65], 256, 2), refused(1));
+    assert_eq!(jilbaroof::mismatch(&P, 1, 2, (1 << 32) + 1), refused(6));
     println!("boundary: Rust: all answers as the sheet has them");
 }

@@ -1,0 +1,3 @@
+/* See stddef.h. */
+typedef __UINT8_TYPE__ uint8_t;
+typedef __UINT32_TYPE__ uint32_t;

@@ -1,0 +1,3 @@
+/* See stddef.h. */
+int printf(const char *, ...);
+int puts(const char *);
