@@ -1,5 +1,5 @@
-/* Calls every function of include/jilbaroof.h, and holds the answers to the sheet of the specification (E4, E10 to E13), to its refusals and
- * to its limits. */
+/* Calls every function of include/jilbaroof.h, and holds the answers to the specification: its sheet (E4, E10 to E13), its refusals and
+ * its limits. */
 #include "jilbaroof.h"
 
 #include <stdio.h>
@@ -72,7 +72,7 @@ static void search_limits(const char *name, searcher ask)
     hold(name, none.refusal == 0 && none.total == 0);
 }
 
-/* The questions without what they are asked of beside the profile. */
+/* The questions as functions of the profile and the tolerances alone. Point 0 would be refused by 6, and 1 and 2 come first. */
 static jilbaroof_jump last_reading(const uint8_t *points, size_t m, uint32_t delta, uint32_t gamma)
 {
     return jilbaroof_last_reading(points, m, delta, gamma, 44);
