@@ -1,7 +1,7 @@
 -- Laws of what a question answers. Assumes nothing.
 use Prim.Native.Nat.{ℕ, zero, suc, _≤_, _<_}
 use mathlib.Core.Path.{_≡_, refl, sym, ap, ap₂, _∙_}
-use mathlib.Core.Logic.{inl, inr, ⊎-elim, _↔_}
+use mathlib.Core.Logic.{_⊎_, inl, inr, ⊎-elim, _↔_}
 use mathlib.Core.List.{List, []}
 use native.Mathlib.Omega.{arith}
 use lib.ListN.{length}
@@ -43,6 +43,13 @@ point-bad m p (inr h) = rw (or-right (eqb p 0) (ltb m p) (lt-ltb m p h))
 pub point-good : (m p : ℕ) → (p ≡ 0 → ⊥) → p ≤ m → ofPoint m p ≡ 0
 unfolding ofPoint
 point-good m p a b = rw (ne-eqb p 0 a, le-ltb m p b)
+
+point-or : (m p : ℕ) → BadPoint m p ⊎ (ofPoint m p ≡ 0)
+point-or m p =
+    ⊎-elim
+    (λ (h : 1 ≤ p). ⊎-elim (λ (l : p ≤ m). inr (point-good m p (λ q. omega arith) l)) (λ (l : m < p). inl (inr l)) (le-or-lt p m))
+    (λ (h : p < 1). inl (inl (let q : p ≡ 0 = omega arith in q)))
+    (le-or-lt 1 p)
 
 nothing-else : (num later : ℕ) → orElse num later ≡ 0 → (num ≡ 0) × (later ≡ 0)
 nothing-else zero later e = (refl, sym (else-later 0 later refl) ∙ e)
@@ -103,6 +110,32 @@ module _ (delta gamma : ℕ) (x : List ℕ) where
     later : askedOf delta gamma x ≡ 0 → mismatchAskedOf delta gamma x p ≡ ofPoint (length x) p
     later e = else-later (askedOf delta gamma x) (ofPoint (length x) p) e
 
+    -- a number that every question may have, 1 or 2, is this one's exactly where it is theirs
+    as-question : (num : ℕ) → 1 ≤ num → num ≤ 2 → (mismatchAskedOf delta gamma x p ≡ num) ↔ (askedOf delta gamma x ≡ num)
+    as-question num some few = (λ e. there (askedOf delta gamma x) refl e, λ e. back num some e)
+      where
+        there : (asked : ℕ) → askedOf delta gamma x ≡ asked → mismatchAskedOf delta gamma x p ≡ num → askedOf delta gamma x ≡ num
+        there zero e h = absurd (⊎-elim (λ b. omega (arith, later e, h, point-bad (length x) p b)) (λ g. omega (arith, later e, h, g)) (point-or (length x) p))
+        there (suc k) e h = e ∙ sym (first k e) ∙ h
+
+        back : (num : ℕ) → 1 ≤ num → askedOf delta gamma x ≡ num → mismatchAskedOf delta gamma x p ≡ num
+        back zero l e = absurd (omega arith)
+        back (suc k) l e = first k e
+
+    -- No. 1: "m = 0 or m > 64"
+    pub mismatch-one-exactly : (mismatchAskedOf delta gamma x p ≡ 1) ↔ BadProfile x
+    mismatch-one-exactly = (
+      λ e. asked-one-exactly .0 (as-question 1 (omega arith) (omega arith) .0 e),
+      λ b. as-question 1 (omega arith) (omega arith) .1 (asked-one-exactly .1 b),
+    )
+
+    -- No. 2: "delta > 255 or gamma > 16,320", and no lower number applies
+    pub mismatch-two-exactly : (mismatchAskedOf delta gamma x p ≡ 2) ↔ ((BadProfile x → ⊥) × BadTolerance delta gamma)
+    mismatch-two-exactly = (
+      λ e. asked-two-exactly .0 (as-question 2 (omega arith) (omega arith) .0 e),
+      λ b. as-question 2 (omega arith) (omega arith) .1 (asked-two-exactly .1 b),
+    )
+
     -- No. 6: "point number is 0 or above m", and no lower number applies
     pub six-exactly : (mismatchAskedOf delta gamma x p ≡ 6) ↔ (Asked delta gamma x × BadPoint (length x) p)
     six-exactly = (there, λ b. later (accepted-asked delta gamma x (b .0)) ∙ point-bad (length x) p (b .1))
@@ -112,12 +145,7 @@ module _ (delta gamma : ℕ) (x : List ℕ) where
         only-zero (suc k) e h = absurd (omega (arith, first k e, small, e))
 
         bad : ofPoint (length x) p ≡ 6 → BadPoint (length x) p
-        bad e =
-            ⊎-elim
-            (λ (h : 1 ≤ p). ⊎-elim
-            (λ (l : p ≤ length x). absurd (let s : _≡_ {A = ℕ} 6 0 = sym e ∙ point-good (length x) p (λ q. omega arith) l in omega arith))
-            (λ (l : length x < p). inr l) (le-or-lt p (length x)))
-            (λ (h : p < 1). inl (let q : p ≡ 0 = omega arith in q)) (le-or-lt 1 p)
+        bad e = ⊎-elim (λ b. b) (λ z. absurd (omega (arith, e, z))) (point-or (length x) p)
 
         there : mismatchAskedOf delta gamma x p ≡ 6 → Asked delta gamma x × BadPoint (length x) p
         there e =
