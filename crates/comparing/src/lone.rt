@@ -16,13 +16,13 @@ fn most_near(p: u8, d: u32) -> u8
     if v < 255 { v as u8 } else { 255 }
 }
 
-// Whether some reading is near a and not near b: the least and the greatest that are near a decide.
-fn is_lonely(d: u32, b: u8, a: u8) -> bool
-    requires { ⌜ (d ≤ maxDelta) × (lowest ≤ a) ⌝ }
-    ensures { λ r. ⌜ r ≡ lonely d b a ⌝ }
+// Whether some reading is near one point and not near the other: the least and the greatest that are near the one decide.
+fn is_lonely(d: u32, one: u8, other: u8) -> bool
+    requires { ⌜ (d ≤ maxDelta) × (lowest ≤ one) ⌝ }
+    ensures { λ r. ⌜ r ≡ lonely d one other ⌝ }
 {
-    if reading::is_near(d, b, reading::least_near(a, d)) {
-        !reading::is_near(d, b, most_near(a, d))
+    if reading::is_near(d, other, reading::least_near(one, d)) {
+        !reading::is_near(d, other, most_near(one, d))
     } else {
         true
     }
@@ -36,7 +36,7 @@ pub(crate) fn lone_at(points: &[u8], d: u32, p: usize, k: usize) -> bool
     if p < k {
         return true;
     }
-    is_lonely(d, points[p], points[p - k])
+    is_lonely(d, points[p - k], points[p])
 }
 
 // The lone jump of point p.

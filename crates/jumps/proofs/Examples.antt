@@ -40,7 +40,7 @@ pub full-edges : (fullJump 1 (42 ∷ 44 ∷ []) ≡ 1) × (fullJump 1 (41 ∷ 44
 unfolding fullJump least fullAt allBelow alike
 full-edges = (refl, refl)
 
-pub lonely-at-255 : lonely 0 254 255 ≡ true
+pub lonely-at-255 : lonely 0 255 254 ≡ true
 unfolding lonely someBelow near
 lonely-at-255 = refl
 

@@ -16,15 +16,15 @@ lastJump near m a = m - greatest (λ i. near i a) m
 abbrev pub nextJump : (ℕ → ℕ → Bool) → ℕ → ℕ → ℕ
 nextJump near m a = m + 1 - greatest (λ i. near i a) m
 
--- "some reading c from 0 to 255 is near a and not near b"
+-- "some reading c from 0 to 255 is near" one point "and not near" the other
 unfoldable pub lonely : ℕ → ℕ → ℕ → Bool
 unfolding someBelow
-lonely d b a = someBelow (λ c. near d a c && not (near d b c)) (highest + 1)
+lonely d one other = someBelow (λ c. near d one c && not (near d other c)) (highest + 1)
 
--- "every reading is near x[p]" is its contrary: some reading is not near b
+-- "every reading is near x[p]" is its contrary: some reading is not near point p
 unfoldable pub somewhereFar : ℕ → ℕ → Bool
 unfolding someBelow
-somewhereFar d b = someBelow (λ c. not (near d b c)) (highest + 1)
+somewhereFar d p = someBelow (λ c. not (near d p c)) (highest + 1)
 
 module _ (d : ℕ) (x : List ℕ) where
   -- "m - i for the greatest i < m with |x[i] - x[m]| at most 2d; m if none"
@@ -34,7 +34,7 @@ module _ (d : ℕ) (x : List ℕ) where
   -- the lone condition of point p at k: "p - k < 1, or some reading c from 0 to 255 is near x[p-k] and not near x[p]"
   unfoldable pub loneAt : ℕ → ℕ → Bool
   unfolding lonely
-  loneAt p k = ltb p k || lonely d (getD x p 0) (getD x (p - k) 0)
+  loneAt p k = ltb p k || lonely d (getD x (p - k) 0) (getD x p 0)
 
   -- "the lone jump of point p is the least k of 1 or more such that" it holds
   unfoldable pub loneJump : ℕ → ℕ

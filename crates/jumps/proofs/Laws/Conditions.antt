@@ -27,17 +27,17 @@ module _ (q k : ℕ) (t : Bool) where
 
 module _ (d : ℕ) (x : List ℕ) where
   -- ---- the lone condition
-  pub lone-is : (p k : ℕ) → loneAt d x p k ≡ true → k ≤ p → lonely d (getD x p 0) (getD x (p - k) 0) ≡ true
+  pub lone-is : (p k : ℕ) → loneAt d x p k ≡ true → k ≤ p → lonely d (getD x (p - k) 0) (getD x p 0) ≡ true
   unfolding loneAt
-  lone-is p k e l = in-landing p k (lonely d (getD x p 0) (getD x (p - k) 0)) e l
+  lone-is p k e l = in-landing p k (lonely d (getD x (p - k) 0) (getD x p 0)) e l
 
-  pub is-lone : (p k : ℕ) → (k ≤ p → lonely d (getD x p 0) (getD x (p - k) 0) ≡ true) → loneAt d x p k ≡ true
+  pub is-lone : (p k : ℕ) → (k ≤ p → lonely d (getD x (p - k) 0) (getD x p 0) ≡ true) → loneAt d x p k ≡ true
   unfolding loneAt
-  is-lone p k f = or-before p k (lonely d (getD x p 0) (getD x (p - k) 0)) f
+  is-lone p k f = or-before p k (lonely d (getD x (p - k) 0) (getD x p 0)) f
 
-  pub lone-within : (p k : ℕ) → k ≤ p → loneAt d x p k ≡ lonely d (getD x p 0) (getD x (p - k) 0)
+  pub lone-within : (p k : ℕ) → k ≤ p → loneAt d x p k ≡ lonely d (getD x (p - k) 0) (getD x p 0)
   unfolding loneAt
-  lone-within p k l = within-landing p k (lonely d (getD x p 0) (getD x (p - k) 0)) l
+  lone-within p k l = within-landing p k (lonely d (getD x (p - k) 0) (getD x p 0)) l
 
   pub lone-jump-ge : (p : ℕ) → 1 ≤ loneJump d x p
   unfolding loneJump

@@ -207,7 +207,7 @@ module _ (delta gamma : ℕ) (x : List ℕ) (asked : Asked delta gamma x) where
             go (yes e) =
                 let s : p - k ≡ i = omega arith in
                 let n = lonely-is d (at i) (at p)
-                (subst (λ (j : ℕ). lonely d (at p) (at j) ≡ true) s (lone-is d x p k (mismatch-lone d x p k t) (omega arith))) in
+                (subst (λ (j : ℕ). lonely d (at j) (at p) ≡ true) s (lone-is d x p k (mismatch-lone d x p k t) (omega arith))) in
                 record { c = n .c; byte = n .byte; seen = at-p p (k + i) (n .c) e (n .not-other); near = of-near i (n .c) (n .near-one) }
             go (no e) = ⊎-elim
                 (λ (h : earlier d x (k + i) p ≡ true).

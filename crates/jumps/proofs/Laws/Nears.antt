@@ -47,7 +47,7 @@ pub record NearOnly (d a b : ℕ) : Type 0 where
   pub not-other : near d b c ≡ false
 
 module _ (d : ℕ) where
-  pub lonely-is : (a b : ℕ) → lonely d b a ≡ true → NearOnly d a b
+  pub lonely-is : (a b : ℕ) → lonely d a b ≡ true → NearOnly d a b
   unfolding lonely
   lonely-is a b e =
       let r = some-is (λ c. near d a c && not (near d b c)) (highest + 1) e in
@@ -58,7 +58,7 @@ module _ (d : ℕ) where
         not-other = not-true (near d b (r .0)) (and-right (near d a (r .0)) (not (near d b (r .0))) (r .2));
       }
 
-  pub is-lonely : (a b : ℕ) → NearOnly d a b → lonely d b a ≡ true
+  pub is-lonely : (a b : ℕ) → NearOnly d a b → lonely d a b ≡ true
   unfolding lonely
   is-lonely a b n =
       is-some (λ c. near d a c && not (near d b c)) (highest + 1) (n .c) (omega (arith, n .byte))
@@ -66,7 +66,7 @@ module _ (d : ℕ) where
 
   -- the two ends of what is near a decide
   abbrev pub ends : ℕ → ℕ → Bool
-  ends b a = not (near d b (max lowest (a - d))) || not (near d b (min highest (a + d)))
+  ends a b = not (near d b (max lowest (a - d))) || not (near d b (min highest (a + d)))
 
   low-end : (a b : ℕ) → a ≤ highest → lowest ≤ a → near d b (max lowest (a - d)) ≡ false → NearOnly d a b
   low-end a b h r e = record {
@@ -100,7 +100,7 @@ module _ (d : ℕ) where
   high-above : (a c : ℕ) → c ≤ highest → diff a c ≤ d → c ≤ min highest (a + d)
   high-above a c r h = omega arith
 
-  only-ends : (a b : ℕ) → NearOnly d a b → ends b a ≡ true
+  only-ends : (a b : ℕ) → NearOnly d a b → ends a b ≡ true
   only-ends a b n = ⊎-elim
       (λ (l : c ≤ b). or-left (not (near d b low)) (not (near d b high)) (beyond b low (lower b c low (low-below a c real within) l away)))
       (λ (l : b < c). or-right (not (near d b low)) (not (near d b high)) (beyond b high (higher b c high (high-above a c (n .byte) within) l away)))
@@ -125,9 +125,9 @@ module _ (d : ℕ) where
       away = far-gt d b c real (n .not-other)
 
   -- "some reading c from 0 to 255" by two readings
-  pub lonely-ends : (a b : ℕ) → a ≤ highest → lowest ≤ a → lonely d b a ≡ ends b a
+  pub lonely-ends : (a b : ℕ) → a ≤ highest → lowest ≤ a → lonely d a b ≡ ends a b
   lonely-ends a b h r =
-      same-test (lonely d b a) (ends b a) (λ e. only-ends a b (lonely-is a b e))
+      same-test (lonely d a b) (ends a b) (λ e. only-ends a b (lonely-is a b e))
       (λ e. ⊎-elim
       (λ u. is-lonely a b (low-end a b h r (not-true (near d b (max lowest (a - d))) u)))
       (λ u. is-lonely a b (high-end a b h r (not-true (near d b (min highest (a + d))) u)))
@@ -135,15 +135,15 @@ module _ (d : ℕ) where
 
 -- as the code has them: l and h are the ends, and nl and nh say whether they are near b
 module _ (d a b l : ℕ) {nl : Bool} (byte : a ≤ highest) (real : lowest ≤ a) (low : l ≡ max lowest (a - d)) (near-low : nl ≡ near d b l) where
-  by-ends : lonely d b a ≡ (not nl || not (near d b (min highest (a + d))))
+  by-ends : lonely d a b ≡ (not nl || not (near d b (min highest (a + d))))
   by-ends =
       lonely-ends d a b byte real
       ∙ ap (λ (t : Bool). not t || not (near d b (min highest (a + d)))) (sym (near-low ∙ ap (near d b) low))
 
-  pub low-decides : nl ≡ false → true ≡ lonely d b a
+  pub low-decides : nl ≡ false → true ≡ lonely d a b
   low-decides f = sym (by-ends ∙ ap (λ (t : Bool). not t || not (near d b (min highest (a + d)))) f)
 
-  pub high-decides : (h : ℕ) {nh : Bool} → nl ≡ true → h ≡ min highest (a + d) → nh ≡ near d b h → not nh ≡ lonely d b a
+  pub high-decides : (h : ℕ) {nh : Bool} → nl ≡ true → h ≡ min highest (a + d) → nh ≡ near d b h → not nh ≡ lonely d a b
   high-decides h t high near-high =
       ap not (near-high ∙ ap (near d b) high) ∙ sym (by-ends ∙ ap (λ (t : Bool). not t || not (near d b (min highest (a + d)))) t)
 

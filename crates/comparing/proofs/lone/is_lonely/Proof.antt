@@ -1,4 +1,4 @@
--- `is_lonely` meets its contract: the two ends of what is near a decide. Assumes nothing.
+-- `is_lonely` meets its contract: the two ends of what is near the one point decide. Assumes nothing.
 use native.Mathlib.Omega.{arith}
 use Rattle.jumps.proofs.Laws.Nears.{low-decides, high-decides}
 use borrow.Author.Needs.{needs}
