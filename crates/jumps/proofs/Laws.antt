@@ -7,5 +7,6 @@ pub mod Several
 pub mod OneReading
 pub mod Demands
 pub mod Sizes
+pub mod Exactly
 pub mod Keeps
 pub mod OverSpans

@@ -6,6 +6,7 @@ use mathlib.Core.Path.{_≡_}
 use lib.ListN.{length, getD}
 use Rattle.fit.specs.Reading.{highest, near}
 use Rattle.fit.specs.Rule.{readingAt}
+use Rattle.fit.specs.Refusal.{maxReadings}
 use Rattle.jumps.specs.Jumps.{earlier}
 
 -- a recording, or a profile, of readings
@@ -31,19 +32,27 @@ abbrev pub NotTooLong : (List ℕ → ℕ → Type 0) → (List ℕ → ℕ → 
 NotTooLong IsPlace Evidence from k =
     (y : List ℕ) (s t : ℕ) → Readings y → Evidence y s → Passed from k s t → IsPlace y t → ⊥
 
--- second half: in some recording with the evidence the landing place is a match
+-- second half: in some recording with the evidence, one that a search accepts, the landing place is a match
 pub record Reaches (IsPlace Evidence : List ℕ → ℕ → Type 0) (k : ℕ) : Type 0 where
   pub y : List ℕ
   pub s : ℕ
   pub readings : Readings y
+  pub short : length y ≤ maxReadings
   pub evidence : Evidence y s
   pub place : IsPlace y (landing s k)
 
--- evidence can occur: some recording has it
+-- both halves, of a jump of `from` or more: the window that was tried is left
+pub record Halves (IsPlace Evidence : List ℕ → ℕ → Type 0) (from k : ℕ) : Type 0 where
+  pub onward : from ≤ k
+  pub not-too-long : NotTooLong IsPlace Evidence from k
+  pub reaches : Reaches IsPlace Evidence k
+
+-- evidence can occur: some recording that a search accepts has it
 pub record Occurs (Evidence : List ℕ → ℕ → Type 0) : Type 0 where
   pub y : List ℕ
   pub s : ℕ
   pub readings : Readings y
+  pub short : length y ≤ maxReadings
   pub evidence : Evidence y s
 
 -- ---- the evidence of each rule

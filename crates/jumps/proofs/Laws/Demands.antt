@@ -138,11 +138,11 @@ module _ (delta gamma : ℕ) (x : List ℕ) (asked : Asked delta gamma x) where
 
     pub last-reading-reaches : (a : ℕ) → a ≤ highest → Reaches (Place delta gamma x) (LastIs (length x) a) (lastJump (fitOf (dOf delta gamma) x) (length x) a)
     last-reading-reaches a h =
-        reaches (LastIs m a) _ _ (last-same (nearBy rule gamma) (fitOf d x) m a (same a)) (last-by-reaches rule m gamma (asked .some) a homes h)
+        reaches (LastIs m a) _ _ (last-same (nearBy rule gamma) (fitOf d x) m a (same a)) (last-by-reaches rule m gamma (asked .some) a homes (asked .few) h)
 
     pub next-reading-reaches : (a : ℕ) → a ≤ highest → Reaches (Place delta gamma x) (NextIs (length x) a) (nextJump (fitOf (dOf delta gamma) x) (length x) a)
     next-reading-reaches a h =
-        reaches (NextIs m a) _ _ (next-same (nearBy rule gamma) (fitOf d x) m a (same a)) (next-by-reaches rule m gamma (asked .some) a homes h)
+        reaches (NextIs m a) _ _ (next-same (nearBy rule gamma) (fitOf d x) m a (same a)) (next-by-reaches rule m gamma (asked .some) a homes (asked .few) h)
 
     -- a reading near point q that may stand at point i
     meet-both : (q i : ℕ) → q < m → i < m → alike (2 * d) (at i) (at q) ≡ true → Meet rule gamma i (λ c. near d (at q) c ≡ true)
@@ -154,7 +154,7 @@ module _ (delta gamma : ℕ) (x : List ℕ) (asked : Asked delta gamma x) where
     after-check-reaches =
         reaches (LastNear d x) (afterJump d x) (afterJump d x) refl
         (single-short rule m gamma last m (m - 1) 1 m (λ c. near d (at last) c ≡ true) (λ i. alike (2 * d) (at i) (at last))
-        (omega (arith, asked .some)) (omega arith) (omega (arith, asked .some)) (omega (arith, asked .some)) homes
+        (omega (arith, asked .some)) (omega arith) (omega (arith, asked .some)) (omega (arith, asked .some)) homes (omega (arith, asked .few))
         (λ i l e. meet-both last i (omega (arith, asked .some)) (omega arith) e)
         (record { c = at last; byte = bytes last; seen = self last (omega (arith, asked .some)) }))
 
@@ -179,7 +179,7 @@ module _ (delta gamma : ℕ) (x : List ℕ) (asked : Asked delta gamma x) where
 
       -- where some reading is not near x[p], the evidence can occur
       pub mismatch-can-occur : somewhereFar (dOf delta gamma) (getD x p 0) ≡ true → Occurs (Mismatch (dOf delta gamma) x p)
-      mismatch-can-occur can = occurs (MismatchedAt d x p) m (any-of (somewhere-is d (at p) can))
+      mismatch-can-occur can = occurs (MismatchedAt d x p) m (omega (arith, asked .few)) (any-of (somewhere-is d (at p) can))
 
     -- what may stand at a point costs at most d
     most : (i a : ℕ) → nearBy rule gamma i a ≡ true → diff (at i) a ≤ d
@@ -196,7 +196,7 @@ module _ (delta gamma : ℕ) (x : List ℕ) (asked : Asked delta gamma x) where
       unfolding fullJump
       full-reaches =
           reaches (AllNear d x) (fullJump d x) (fullJump d x) refl
-          (several-short rule m gamma (asked .some) (λ q c. near d (at q) c ≡ true) (fullAt d x) full-sound homes full-meets
+          (several-short rule m gamma (asked .some) (λ q c. near d (at q) c ≡ true) (fullAt d x) full-sound (omega (arith, asked .few)) homes full-meets
           (λ q l. record { c = at q; byte = bytes q; seen = self q l }) d most wide)
 
       module _ (p : ℕ) (point : p < length x) where
@@ -229,5 +229,5 @@ module _ (delta gamma : ℕ) (x : List ℕ) (asked : Asked delta gamma x) where
         unfolding mismatchJump
         mismatch-reaches can =
             reaches (Mismatch d x p) (mismatchJump d x p) (mismatchJump d x p) refl
-            (several-short rule m gamma (asked .some) (MismatchedAt d x p) (mismatchAt d x p) (mismatch-sound p point) homes mismatch-meets
+            (several-short rule m gamma (asked .some) (MismatchedAt d x p) (mismatchAt d x p) (mismatch-sound p point) (omega (arith, asked .few)) homes mismatch-meets
             (any-of p (somewhere-is d (at p) can)) d most wide)

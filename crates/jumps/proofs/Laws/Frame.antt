@@ -11,9 +11,10 @@ use native.Mathlib.Omega.{arith}
 use lib.ListN.{length, getD}
 use Rattle.fit.specs.Reading.{highest}
 use Rattle.fit.specs.Rule.{Rule, readingAt, sumCost, isPlaceBy, nearBy}
+use Rattle.fit.specs.Refusal.{maxReadings}
 use Rattle.fit.proofs.Laws.Bools.{le-or-lt}
 use Rattle.fit.proofs.Laws.Rules.{fit-all, sum-none, sum-more, sum-bound, by-is, by-near}
-use Rattle.jumps.specs.Demand.{Readings, landing, Passed, Seen, NotTooLong, Reaches, Occurs}
+use Rattle.jumps.specs.Demand.{Readings, landing, Passed, Seen, NotTooLong, Reaches, Halves, Occurs}
 
 -- ---- a recording from a function
 unfoldable pub tab : (ℕ → ℕ) → ℕ → List ℕ
@@ -82,15 +83,16 @@ module _ (r : Rule) (m gamma : ℕ) where
         → P q (readingAt y s q) × (nearBy r gamma i (readingAt y s q) ≡ true)
     clash y s t q i e p at l h = (e .each q l, subst (λ (j : ℕ). nearBy r gamma i (getD y j 0) ≡ true) (sym at) (by-near r m gamma y t p i h))
 
-    -- built: readings c that are as the evidence says, and suit at k with a sum of at most gamma, make a recording
-    pub built : (c : ℕ → ℕ) (k : ℕ) → ((q : ℕ) → c q ≤ highest) → ((q : ℕ) → q < w → P q (c q))
+    -- built: readings c that are as the evidence says, and suit at k with a sum of at most gamma, make a recording of w + (k + m) readings
+    pub built : (c : ℕ → ℕ) (k : ℕ) → w + (k + m) ≤ maxReadings → ((q : ℕ) → c q ≤ highest) → ((q : ℕ) → q < w → P q (c q))
         → ((i : ℕ) → i < m → r .fit i (c (k + i)) ≡ true)
         → ((y : List ℕ) (t : ℕ) → ((i : ℕ) → i < m → readingAt y t i ≡ c (k + i)) → sumCost (r .cost) y t m ≤ gamma)
         → Reaches PlaceBy (Seen P w) k
-    built c k byte seen fits total = record {
+    built c k few byte seen fits total = record {
       y = y;
       s = 0;
       readings = tab-readings c n byte;
+      short = omega (arith, length-tab c n);
       evidence = record {
         inside = omega (arith, length-tab c n);
         each = λ q l. subst (P q) (sym (at (0 + q) q (omega arith) (omega arith))) (seen q l);
@@ -113,11 +115,12 @@ module _ (r : Rule) (m gamma : ℕ) where
         on i l = at (landing 0 k + i) (k + i) (omega arith) (omega arith)
 
 -- evidence that allows a reading at each position can occur
-pub occurs : (P : ℕ → ℕ → Type 0) (w : ℕ) → ((q : ℕ) → q < w → Some (P q)) → Occurs (Seen P w)
-occurs P w any = record {
+pub occurs : (P : ℕ → ℕ → Type 0) (w : ℕ) → w ≤ maxReadings → ((q : ℕ) → q < w → Some (P q)) → Occurs (Seen P w)
+occurs P w few any = record {
   y = tab c w;
   s = 0;
   readings = tab-readings c w (λ q. byte q (decLt q w));
+  short = omega (arith, length-tab c w);
   evidence = record {
     inside = omega (arith, length-tab c w);
     each = λ q l. let e : 0 + q ≡ q = omega arith in subst (P q) (sym (ap (λ (i : ℕ). getD (tab c w) i 0) e ∙ tab-at c w q l)) (seen q l (decLt q w));
@@ -146,23 +149,30 @@ long-as A B E from k f h y s t rd e p b = h y s t rd e p (f y t b)
 
 pub reaches-as : (A B E : List ℕ → ℕ → Type 0) (k : ℕ) → ((y : List ℕ) (t : ℕ) → A y t → B y t) → Reaches A E k → Reaches B E k
 reaches-as A B E k f h =
-    record { y = h .y; s = h .s; readings = h .readings; evidence = h .evidence; place = f (h .y) (landing (h .s) k) (h .place) }
+    record { y = h .y; s = h .s; readings = h .readings; short = h .short; evidence = h .evidence; place = f (h .y) (landing (h .s) k) (h .place) }
+
+-- "A jump of 0 passes nothing and lands on this window"
+pub zero-passes-nothing : (s t : ℕ) → Passed 0 0 s t → ⊥
+zero-passes-nothing s t p = omega (arith, p .since, p .before)
+
+pub zero-lands-here : (s : ℕ) → landing s 0 ≡ s
+zero-lands-here s = omega arith
 
 -- a jump that does not pass t does not go beyond it
 pub not-beyond : (from k s t : ℕ) → (Passed from k s t → ⊥) → s + from ≤ t → s + k ≤ t
 not-beyond from k s t h l = ⊎-elim (λ (b : s + k ≤ t). b) (λ (b : t < s + k). absurd (h (record { since = l; before = b }))) (le-or-lt (s + k) t)
 
 -- no second number has both halves
-pub no-second-jump : (IsPlace E : List ℕ → ℕ → Type 0) (from j k : ℕ) → from ≤ j → from ≤ k
-    → NotTooLong IsPlace E from j → Reaches IsPlace E j → NotTooLong IsPlace E from k → Reaches IsPlace E k → j ≡ k
-no-second-jump IsPlace E from j k fj fk a b a′ b′ =
-    ⊎-elim (λ (h : j ≤ k). ⊎-elim (λ (h′ : k ≤ j). omega arith) (λ (l : j < k). absurd (shorter j k fj l a′ b)) (le-or-lt k j))
-    (λ (l : k < j). absurd (shorter k j fk l a b′)) (le-or-lt j k)
+pub no-second-jump : (IsPlace E : List ℕ → ℕ → Type 0) (from j k : ℕ) → Halves IsPlace E from j → Halves IsPlace E from k → j ≡ k
+no-second-jump IsPlace E from j k a b =
+    ⊎-elim (λ (h : j ≤ k). ⊎-elim (λ (h′ : k ≤ j). omega arith) (λ (l : j < k). absurd (shorter j k l a b)) (le-or-lt k j))
+    (λ (l : k < j). absurd (shorter k j l b a)) (le-or-lt j k)
   where
-    shorter : (i l : ℕ) → from ≤ i → i < l → NotTooLong IsPlace E from l → Reaches IsPlace E i → ⊥
-    shorter i l f h long short =
-        long (short .y) (short .s) (landing (short .s) i) (short .readings) (short .evidence)
-        (record { since = omega arith; before = omega arith }) (short .place)
+    shorter : (i l : ℕ) → i < l → Halves IsPlace E from i → Halves IsPlace E from l → ⊥
+    shorter i l h near far =
+        let r = near .reaches in
+        far .not-too-long (r .y) (r .s) (landing (r .s) i) (r .readings) (r .evidence)
+        (record { since = omega (arith, near .onward); before = omega arith }) (r .place)
 
 -- "The larger of two jumps is never too long"
 pub larger-not-too-long : (IsPlace E F : List ℕ → ℕ → Type 0) (from j k : ℕ) → NotTooLong IsPlace E from j → NotTooLong IsPlace F from k

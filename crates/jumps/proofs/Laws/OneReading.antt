@@ -6,6 +6,7 @@ use mathlib.Core.List.{List}
 use native.Mathlib.Omega.{arith}
 use Rattle.fit.specs.Reading.{highest}
 use Rattle.fit.specs.Rule.{Rule, nearBy}
+use Rattle.fit.specs.Refusal.{maxPoints}
 use Rattle.jumps.specs.Jumps.{lastJump, nextJump}
 use Rattle.jumps.specs.Demand.{Passed, LastIs, NextIs, NotTooLong, Reaches}
 use Rattle.jumps.proofs.Laws.Leasts.{greatest-same}
@@ -39,7 +40,7 @@ module _ (r : Rule) (m gamma : ℕ) (some : 1 ≤ m) (a : ℕ) where
   pub next-by-not-too-long : NotTooLong (PlaceBy r m gamma) (NextIs m a) 1 (nextJump (nearBy r gamma) m a)
   next-by-not-too-long y s t rd = next-by-passes y s t
 
-  module _ (h : Home r m) (byte : a ≤ highest) where
+  module _ (h : Home r m) (few : m ≤ maxPoints) (byte : a ≤ highest) where
     meets : (i : ℕ) → i < m → nearBy r gamma i a ≡ true → Meet r gamma i (λ c. c ≡ a)
     meets i l e = record { c = a; byte = byte; seen = refl; near = e }
 
@@ -48,8 +49,8 @@ module _ (r : Rule) (m gamma : ℕ) (some : 1 ≤ m) (a : ℕ) where
 
     pub last-by-reaches : Reaches (PlaceBy r m gamma) (LastIs m a) (lastJump (nearBy r gamma) m a)
     last-by-reaches =
-        single-short r m gamma (m - 1) m m 0 m (λ c. c ≡ a) (λ i. nearBy r gamma i a) (omega arith) (omega arith) (omega arith) (omega arith) h meets itself
+        single-short r m gamma (m - 1) m m 0 m (λ c. c ≡ a) (λ i. nearBy r gamma i a) (omega arith) (omega arith) (omega arith) (omega arith) h (omega arith) meets itself
 
     pub next-by-reaches : Reaches (PlaceBy r m gamma) (NextIs m a) (nextJump (nearBy r gamma) m a)
     next-by-reaches =
-        single-short r m gamma m (suc m) m 1 (m + 1) (λ c. c ≡ a) (λ i. nearBy r gamma i a) (omega arith) (omega arith) (omega arith) (omega arith) h meets itself
+        single-short r m gamma m (suc m) m 1 (m + 1) (λ c. c ≡ a) (λ i. nearBy r gamma i a) (omega arith) (omega arith) (omega arith) (omega arith) h (omega arith) meets itself

@@ -9,11 +9,12 @@ use native.Mathlib.Omega.{arith}
 use lib.Dec.{leb}
 use Rattle.fit.specs.Reading.{highest}
 use Rattle.fit.specs.Rule.{Rule, readingAt, nearBy}
+use Rattle.fit.specs.Refusal.{maxReadings}
 use Rattle.fit.proofs.Laws.Bools.{and-left, not-both}
 use Rattle.fit.proofs.Laws.Rules.{sum-bound}
 use Rattle.jumps.specs.Least.{least}
 use Rattle.jumps.specs.Demand.{Seen, NotTooLong, Reaches}
-use Rattle.jumps.proofs.Laws.Leasts.{least-holds, least-none}
+use Rattle.jumps.proofs.Laws.Leasts.{least-le, least-holds, least-none}
 use Rattle.jumps.proofs.Laws.Frame.{Home, Some, Meet, PlaceBy, clash, built}
 
 -- a reading for position q where the jump is k: as the evidence says, and it suits at a cost of at most b where the jump lands
@@ -41,11 +42,11 @@ module _ (r : Rule) (m gamma : ℕ) (some : 1 ≤ m) (P : ℕ → ℕ → Type 0
         k : ℕ
         k = t - s
 
-    pub several-short : Home r m → ((k : ℕ) → test k ≡ true → Meets k) → ((q : ℕ) → q < m → Some (P q))
+    pub several-short : m + (m + m) ≤ maxReadings → Home r m → ((k : ℕ) → test k ≡ true → Meets k) → ((q : ℕ) → q < m → Some (P q))
         → (d : ℕ) → ((i a : ℕ) → nearBy r gamma i a ≡ true → r .cost i a ≤ d) → m * d ≤ gamma
         → Reaches (PlaceBy r m gamma) (Seen P m) (least test 1 (m - 1))
-    several-short h meets any d most enough =
-        built r m gamma P m (λ q. pick q .c) k (λ q. pick q .byte) (λ q l. pick q .seen l) (λ i l. pick (k + i) .fits i l refl)
+    several-short short h meets any d most enough =
+        built r m gamma P m (λ q. pick q .c) k (omega (arith, least-le test 1 (m - 1))) (λ q. pick q .byte) (λ q l. pick q .seen l) (λ i l. pick (k + i) .fits i l refl)
         (λ y t on. le-trans (sum-bound (r .cost) y t m d
         (λ i l. subst (λ (a : ℕ). r .cost i a ≤ d) (sym (on i l)) (pick (k + i) .cheap i l refl))) enough)
       where

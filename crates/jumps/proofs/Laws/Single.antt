@@ -9,6 +9,7 @@ use lib.Dec.{leb, eqb}
 use borrow.Author.Tests.{eq-eqb, ne-eqb, leb-true}
 use Rattle.fit.specs.Reading.{highest}
 use Rattle.fit.specs.Rule.{Rule, readingAt, nearBy}
+use Rattle.fit.specs.Refusal.{maxReadings}
 use Rattle.fit.proofs.Laws.Bools.{and-left, and-right, not-both}
 use Rattle.jumps.specs.Least.{greatest}
 use Rattle.jumps.specs.Demand.{Passed, Seen, Reaches}
@@ -34,11 +35,11 @@ module _ (r : Rule) (m gamma q w n from top : ℕ) (A : ℕ → Type 0) (ok : �
         both : At q (readingAt y s q) × (nearBy r gamma i (readingAt y s q) ≡ true)
         both = clash r m gamma At w y s t q i e place (omega (arith, p .since, p .before)) inside (omega (arith, p .since, p .before))
 
-  module _ (h : Home r m) where
+  module _ (h : Home r m) (short : w + (top + m) ≤ maxReadings) where
     -- the reading v at position q, and elsewhere what stands for nothing where the jump lands
-    with-v : (k v : ℕ) → v ≤ highest → A v → ((i : ℕ) → i < m → k + i ≡ q → nearBy r gamma i v ≡ true) → Reaches (PlaceBy r m gamma) (Seen At w) k
-    with-v k v byte seen near =
-        built r m gamma At w c k (λ j. bytes j (ℕ-discrete j q)) (λ j l e. subst A (sym (here j e)) seen) (λ i l. fits i l (ℕ-discrete (k + i) q))
+    with-v : (k v : ℕ) → k ≤ top → v ≤ highest → A v → ((i : ℕ) → i < m → k + i ≡ q → nearBy r gamma i v ≡ true) → Reaches (PlaceBy r m gamma) (Seen At w) k
+    with-v k v within byte seen near =
+        built r m gamma At w c k (omega arith) (λ j. bytes j (ℕ-discrete j q)) (λ j l e. subst A (sym (here j e)) seen) (λ i l. fits i l (ℕ-discrete (k + i) q))
         (λ y t on. sum-single (r .cost) y t (q - k) gamma m
         (λ i l other. ap (r .cost i) (on i l) ∙ free i l (λ e. other (omega arith)))
         (λ i l e. subst (λ (a : ℕ). r .cost i a ≤ gamma) (sym (on i l)) (dear i l (ℕ-discrete (k + i) q))))
@@ -76,8 +77,8 @@ module _ (r : Rule) (m gamma q w n from top : ℕ) (A : ℕ → Type 0) (ok : �
     single-short meet any = go (greatest ok n) refl
       where
         go : (g : ℕ) → greatest ok n ≡ g → Reaches (PlaceBy r m gamma) (Seen At w) (top - g)
-        go zero e = with-v (top - 0) (any .c) (any .byte) (any .seen) (λ i l b. absurd (omega arith))
+        go zero e = with-v (top - 0) (any .c) (omega arith) (any .byte) (any .seen) (λ i l b. absurd (omega arith))
         go (suc g) e =
             let f = meet g (omega (arith, greatest-le ok n)) (greatest-holds ok n g e) in
-            with-v (top - suc g) (f .c) (f .byte) (f .seen)
+            with-v (top - suc g) (f .c) (omega arith) (f .byte) (f .seen)
             (λ i l b. let s : g ≡ i = omega (arith, greatest-le ok n) in subst (λ (j : ℕ). nearBy r gamma j (f .c) ≡ true) s (f .near))
