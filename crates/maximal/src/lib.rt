@@ -29,9 +29,9 @@ pub fn search(points: &[u8], delta: u32, gamma: u32, recording: &[u8], list: &mu
     let count = window::count_windows(m, recording);
     let mut s = 0;
     while s < count {
-        let near = step::near_points(points, d, &order, recording, s);
-        found = step::try_compared(&spans, m, gamma, recording, list, s, near, found);
-        let jump = step::compared_jump(m, &order, &jumps, full, near);
+        let leading = step::near_points(points, d, &order, recording, s);
+        found = step::try_compared(&spans, m, gamma, recording, list, s, leading, found);
+        let jump = step::compared_jump(m, &order, &jumps, full, leading);
         s += step::larger_jump(&next, m, recording, s, jump);
     }
     found

@@ -39,7 +39,7 @@ pub(crate) fn near_points(points: &[u8], d: u32, order: &[u8], recording: &[u8],
     j
 }
 
-// Tries the window at s, of whose points `near` are near before one that is not: only where all m are, its sum is looked at.
+// Tries the window at s, of whose points `leading` are near before one that is not: only where all m are, its sum is looked at.
 pub(crate) fn try_compared(
     spans: &[u16],
     m: usize,
@@ -47,29 +47,35 @@ pub(crate) fn try_compared(
     recording: &[u8],
     list: &mut [u32],
     s: usize,
-    near: usize,
+    leading: usize,
     before: Search,
 ) -> Search
     requires { ⌜ (m ≤ maxPoints) × (4 * m ≤ length (now spans)) × (s + m ≤ length (now recording)) × (gamma ≤ maxGamma) ⌝ }
     requires { ⌜ (s < 2 ^ 32) × (before .total < 2 ^ 32) × (before .tried < 2 ^ 32) ⌝ }
-    requires { ⌜ (near < m → isPlaceBy (ruleIn (now spans)) m gamma (now recording) s ≡ false) ⌝ }
+    requires { ⌜ (leading < m → isPlaceBy (ruleIn (now spans)) m gamma (now recording) s ≡ false) ⌝ }
     ensures { λ r. ⌜
         Tried (soughtBy (ruleIn (now (spans .entry))) m gamma (now (recording .entry))) s before
         (lent (now (list .entry))) r (lent (now (list .exit))) ⌝ }
 {
-    if near < m {
+    if leading < m {
         return window::note(list, s, false, before);
     }
     window::try_at(spans, m, gamma, recording, list, s, before)
 }
 
-// The mismatch jump of the point that is compared after `near` others, or the full jump.
-pub(crate) fn compared_jump(m: usize, order: &[u8], jumps: &[u8], full: usize, near: usize) -> usize
-    requires { ⌜ (m ≤ length (now order)) × (near < m → getD (now order) near 0 < length (now jumps)) ⌝ }
-    ensures { λ r. ⌜ r ≡ cond (ltb near m) (getD (now (jumps .entry)) (getD (now (order .entry)) near 0) 0) full ⌝ }
+// The mismatch jump of the point that is compared after `leading` others, or the full jump.
+pub(crate) fn compared_jump(
+    m: usize,
+    order: &[u8],
+    jumps: &[u8],
+    full: usize,
+    leading: usize,
+) -> usize
+    requires { ⌜ (m ≤ length (now order)) × (leading < m → getD (now order) leading 0 < length (now jumps)) ⌝ }
+    ensures { λ r. ⌜ r ≡ cond (ltb leading m) (getD (now (jumps .entry)) (getD (now (order .entry)) leading 0) 0) full ⌝ }
 {
-    if near < m {
-        let p = wide(order[near]);
+    if leading < m {
+        let p = wide(order[leading]);
         return wide(jumps[p]);
     }
     full
