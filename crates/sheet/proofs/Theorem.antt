@@ -16,7 +16,8 @@ use Rattle.last.specs.Walk.{lastTries, lastNext}
 use Rattle.skip.specs.Walk.{probed, probes, skipWalk}
 use Rattle.maximal.specs.Walk.{comparedJump, maximalNext}
 use Rattle.sheet.specs.Sheet.{sheet, Holds}
+use Rattle.sheet.proofs.Tables.{equal, passes, passing-holds}
 
 pub sheet-holds : Holds sheet
-unfolding alike near allFit sumCost isPlaceBy isPlace upTo walkBy walk orElse ofProfile ofTolerance ofRecording askedOf refusalOf leastFrom lowBits ofWidth greatest least allBelow someBelow lonely loneAt loneJump earlier agreesAt mismatchAt mismatchJump fullAt fullJump withLone falling jumpAnswer ofPoint lastTries lastNext probed probes skipWalk comparedJump maximalNext
-sheet-holds = ((refl, refl), ((refl, refl), ((refl, refl), ((refl, refl), ((refl, refl, refl, refl), ((refl, refl), ((refl, refl), ((refl, refl), ((refl, refl), (refl, (refl, (refl, (refl, (refl, ((refl, refl), ((refl, refl), (refl, (refl, (refl, (refl, (refl, (refl, tt))))))))))))))))))))))
+unfolding equal passes alike near allFit sumCost isPlaceBy isPlace upTo walkBy walk orElse ofProfile ofTolerance ofRecording askedOf refusalOf leastFrom lowBits ofWidth greatest least allBelow someBelow lonely loneAt loneJump earlier agreesAt mismatchAt mismatchJump fullAt fullJump withLone falling jumpAnswer ofPoint lastTries lastNext probed probes skipWalk comparedJump maximalNext
+sheet-holds = passing-holds sheet refl

@@ -10,6 +10,7 @@ use Rattle.fit.specs.Answer.{soughtOf, all}
 use Rattle.counters.specs.Width.{widthOf}
 use Rattle.packed.specs.Fourth.{bitsOf, packedRefusal}
 use Rattle.jumps.specs.Jumps.{lastJump, afterJump, mismatchJump}
+use Rattle.questions.specs.declared.Jump.{Jump}
 use Rattle.questions.specs.Asking.{jumpAnswer, mismatchAskedOf}
 use Rattle.last.specs.Walk.{lastWalk}
 use Rattle.skip.specs.Walk.{skipWalk}
@@ -24,20 +25,35 @@ pub data Row : Type 0 where
   last-reading-is : (x : List ℕ) (delta gamma a jump : ℕ) → Row
   mismatch-is : (x : List ℕ) (delta gamma p jump : ℕ) → Row
 
--- what it says
+-- what the definitions give for a row's input: for a search, with its refusal before the places; for a question, its refusal and its jump
+abbrev answered : Jump → List ℕ
+answered r = r .refusal ∷ r .jump ∷ []
+
+abbrev pub found : Row → List ℕ
+found (places-are x y delta gamma places) = refusalOf delta gamma x y ∷ all (soughtOf delta gamma x y)
+found (tried-are x y delta gamma plain last skip maximal) =
+    windows (length x) (length y)
+    ∷ length (lastWalk (fitOf (dOf delta gamma) x) (length x) (afterJump (dOf delta gamma) x) y)
+    ∷ length (skipWalk (fitOf (dOf delta gamma) x) (length x) y)
+    ∷ length (maximalWalk (dOf delta gamma) x y)
+    ∷ []
+found (width-is g width) = widthOf g ∷ []
+found (packed-is x delta gamma bits refusal) = bitsOf delta gamma (length x) ∷ packedRefusal delta gamma x [] ∷ []
+found (last-reading-is x delta gamma a jump) = answered (jumpAnswer (askedOf delta gamma x) (lastJump (fitOf (dOf delta gamma) x) (length x) a))
+found (mismatch-is x delta gamma p jump) = answered (jumpAnswer (mismatchAskedOf delta gamma x p) (mismatchJump (dOf delta gamma) x (p - 1)))
+
+-- what the sheet has: no row's search or question is refused, but by packed
+abbrev pub stated : Row → List ℕ
+stated (places-are x y delta gamma places) = 0 ∷ places
+stated (tried-are x y delta gamma plain last skip maximal) = plain ∷ last ∷ skip ∷ maximal ∷ []
+stated (width-is g width) = width ∷ []
+stated (packed-is x delta gamma bits refusal) = bits ∷ refusal ∷ []
+stated (last-reading-is x delta gamma a jump) = 0 ∷ jump ∷ []
+stated (mismatch-is x delta gamma p jump) = 0 ∷ jump ∷ []
+
+-- a row says that these are the same
 abbrev pub Says : Row → Type 0
-Says (places-are x y delta gamma places) = (refusalOf delta gamma x y ≡ 0) × (all (soughtOf delta gamma x y) ≡ places)
-Says (tried-are x y delta gamma plain last skip maximal) =
-    (windows (length x) (length y) ≡ plain)
-    × (length (lastWalk (fitOf (dOf delta gamma) x) (length x) (afterJump (dOf delta gamma) x) y) ≡ last)
-    × (length (skipWalk (fitOf (dOf delta gamma) x) (length x) y) ≡ skip)
-    × (length (maximalWalk (dOf delta gamma) x y) ≡ maximal)
-Says (width-is g width) = widthOf g ≡ width
-Says (packed-is x delta gamma bits refusal) = (bitsOf delta gamma (length x) ≡ bits) × (packedRefusal delta gamma x [] ≡ refusal)
-Says (last-reading-is x delta gamma a jump) =
-    jumpAnswer (askedOf delta gamma x) (lastJump (fitOf (dOf delta gamma) x) (length x) a) ≡ jumpAnswer 0 jump
-Says (mismatch-is x delta gamma p jump) =
-    jumpAnswer (mismatchAskedOf delta gamma x p) (mismatchJump (dOf delta gamma) x (p - 1)) ≡ jumpAnswer 0 jump
+Says r = found r ≡ stated r
 
 -- "P is 40 42 44. L is 40 42 44 41 43 45 39 42 43 70 41 41 43 40 (n = 14)."
 abbrev P : List ℕ
