@@ -1,4 +1,5 @@
 // What a search needs to compare points: their order, and the mismatch jump of each.
+use fit::Profile;
 ghost use mathlib.Core.Path.{_≡_};
 ghost use Prim.Native.Nat.{_≤_, _<_};
 ghost use lib.ListN.{length};
@@ -10,8 +11,8 @@ ghost use Rattle.comparing.specs.Writing.{HoldsOrder, HoldsAgreeing};
 
 // The points in the order in which they are compared, and the mismatch jump of each point.
 pub struct Compared {
-    pub order: [u8; 64],
-    pub jumps: [u8; 64],
+    pub order: [u8; Profile::MAX_POINTS],
+    pub jumps: [u8; Profile::MAX_POINTS],
 }
 
 // Whether point q lies before the window that a jump of k lands on, or is alike to the point that comes to stand there.
@@ -32,7 +33,7 @@ fn count_agreeing(points: &[u8], d: u32, order: &[u8], k: usize) -> usize
 {
     let mut j = 0;
     while j < points.len() {
-        if agrees(points, d, k, super::order::size(order[j])) {
+        if agrees(points, d, k, reading::index(order[j])) {
             j += 1;
         } else {
             return j;
@@ -42,11 +43,11 @@ fn count_agreeing(points: &[u8], d: u32, order: &[u8], k: usize) -> usize
 }
 
 // The same for every k below m.
-fn agreeing_table(points: &[u8], d: u32, order: &[u8]) -> [u8; 64]
+fn agreeing_table(points: &[u8], d: u32, order: &[u8]) -> [u8; Profile::MAX_POINTS]
     requires { ⌜ Usable d (now points) × HoldsOrder d (now points) (now order) ⌝ }
     ensures { λ r. ⌜ HoldsAgreeing d (now (points .entry)) r ⌝ }
 {
-    let mut table = [0u8; 64];
+    let mut table = [0u8; Profile::MAX_POINTS];
     let mut k = 0;
     while k < points.len() {
         let count = count_agreeing(points, d, order, k);
@@ -61,7 +62,7 @@ fn mismatch_at(points: &[u8], d: u32, agreed: &[u8], j: usize, p: usize, k: usiz
     requires { ⌜ Usable d (now points) × ComparedAt d (now points) j p × HoldsAgreeing d (now points) (now agreed) × (k < length (now points)) ⌝ }
     ensures { λ r. ⌜ r ≡ mismatchAt d (now (points .entry)) p k ⌝ }
 {
-    if j <= super::order::size(agreed[k]) {
+    if j <= reading::index(agreed[k]) {
         super::lone::lone_at(points, d, p, k)
     } else {
         false
@@ -84,14 +85,14 @@ fn mismatch_jump(points: &[u8], d: u32, agreed: &[u8], j: usize, p: usize) -> us
 }
 
 // The mismatch jump of each point.
-fn mismatch_table(points: &[u8], d: u32, order: &[u8], agreed: &[u8]) -> [u8; 64]
+fn mismatch_table(points: &[u8], d: u32, order: &[u8], agreed: &[u8]) -> [u8; Profile::MAX_POINTS]
     requires { ⌜ Usable d (now points) × HoldsOrder d (now points) (now order) × HoldsAgreeing d (now points) (now agreed) ⌝ }
     ensures { λ r. ⌜ Holds (mismatchJump d (now (points .entry))) (length (now (points .entry))) maxPoints r ⌝ }
 {
-    let mut table = [0u8; 64];
+    let mut table = [0u8; Profile::MAX_POINTS];
     let mut j = 0;
     while j < points.len() {
-        let p = super::order::size(order[j]);
+        let p = reading::index(order[j]);
         let jump = mismatch_jump(points, d, agreed, j, p);
         table[p] = jump as u8;
         j += 1;

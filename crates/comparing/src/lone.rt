@@ -1,4 +1,5 @@
 // The lone jumps, which give the order in which points are compared.
+use fit::Profile;
 ghost use mathlib.Core.Path.{_≡_};
 ghost use Prim.Native.Nat.{_+_, _≤_, _<_, min};
 ghost use lib.ListN.{length};
@@ -13,7 +14,11 @@ fn most_near(p: u8, d: u32) -> u8
     ensures { λ r. ⌜ r ≡ min highest (p + d) ⌝ }
 {
     let v = p as u32 + d;
-    if v < 255 { v as u8 } else { 255 }
+    if v < reading::HIGHEST as u32 {
+        v as u8
+    } else {
+        reading::HIGHEST
+    }
 }
 
 // Whether some reading is near one point and not near the other: the least and the greatest that are near the one decide.
@@ -55,11 +60,11 @@ fn lone_jump(points: &[u8], d: u32, p: usize) -> usize
 }
 
 // The lone jumps of all points.
-pub(crate) fn lone_table(points: &[u8], d: u32) -> [u8; 64]
+pub(crate) fn lone_table(points: &[u8], d: u32) -> [u8; Profile::MAX_POINTS]
     requires { ⌜ Usable d (now points) ⌝ }
     ensures { λ r. ⌜ Holds (loneJump d (now (points .entry))) (length (now (points .entry))) maxPoints r ⌝ }
 {
-    let mut table = [0u8; 64];
+    let mut table = [0u8; Profile::MAX_POINTS];
     let mut p = 0;
     while p < points.len() {
         let jump = lone_jump(points, d, p);

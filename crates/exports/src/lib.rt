@@ -6,14 +6,14 @@ ghost use mathlib.Core.Path.{_≡_};
 ghost use Prim.Native.Nat.{_-_};
 ghost use lib.ListN.{length};
 ghost use Rattle.fit.specs.Place.{fitOf, dOf, windows};
-ghost use Rattle.fit.specs.Refusal.{askedOf};
+ghost use Rattle.fit.specs.Refusal.{questionRefusal};
 ghost use Rattle.fit.specs.Answer.{lent, Answers};
 ghost use Rattle.packed.specs.Fourth.{PackedAnswers};
 ghost use Rattle.last.specs.Walk.{lastWalk};
 ghost use Rattle.skip.specs.Walk.{skipWalk};
 ghost use Rattle.maximal.specs.Walk.{maximalWalk};
 ghost use Rattle.jumps.specs.Jumps.{lastJump, nextJump, afterJump, mismatchJump, fullJump};
-ghost use Rattle.questions.specs.Asking.{jumpAnswer, mismatchAskedOf};
+ghost use Rattle.questions.specs.Asking.{jumpAnswer, mismatchRefusal};
 
 // plain: every window is tried.
 #[no_mangle]
@@ -104,7 +104,7 @@ pub extern "C" fn jilbaroof_maximal(
 #[no_mangle]
 pub extern "C" fn jilbaroof_last_reading(points: &[u8], delta: u32, gamma: u32, a: u8) -> Jump
     ensures { λ r. ⌜
-        r ≡ jumpAnswer (askedOf delta gamma (now (points .entry)))
+        r ≡ jumpAnswer (questionRefusal delta gamma (now (points .entry)))
         (lastJump (fitOf (dOf delta gamma) (now (points .entry))) (length (now (points .entry))) a) ⌝ }
 {
     questions::last_reading(points, delta, gamma, a)
@@ -114,7 +114,7 @@ pub extern "C" fn jilbaroof_last_reading(points: &[u8], delta: u32, gamma: u32, 
 #[no_mangle]
 pub extern "C" fn jilbaroof_next_reading(points: &[u8], delta: u32, gamma: u32, a: u8) -> Jump
     ensures { λ r. ⌜
-        r ≡ jumpAnswer (askedOf delta gamma (now (points .entry)))
+        r ≡ jumpAnswer (questionRefusal delta gamma (now (points .entry)))
         (nextJump (fitOf (dOf delta gamma) (now (points .entry))) (length (now (points .entry))) a) ⌝ }
 {
     questions::next_reading(points, delta, gamma, a)
@@ -123,7 +123,7 @@ pub extern "C" fn jilbaroof_next_reading(points: &[u8], delta: u32, gamma: u32, 
 // The after-check jump.
 #[no_mangle]
 pub extern "C" fn jilbaroof_after_check(points: &[u8], delta: u32, gamma: u32) -> Jump
-    ensures { λ r. ⌜ r ≡ jumpAnswer (askedOf delta gamma (now (points .entry))) (afterJump (dOf delta gamma) (now (points .entry))) ⌝ }
+    ensures { λ r. ⌜ r ≡ jumpAnswer (questionRefusal delta gamma (now (points .entry))) (afterJump (dOf delta gamma) (now (points .entry))) ⌝ }
 {
     questions::after_check(points, delta, gamma)
 }
@@ -131,7 +131,7 @@ pub extern "C" fn jilbaroof_after_check(points: &[u8], delta: u32, gamma: u32) -
 // The full jump.
 #[no_mangle]
 pub extern "C" fn jilbaroof_full(points: &[u8], delta: u32, gamma: u32) -> Jump
-    ensures { λ r. ⌜ r ≡ jumpAnswer (askedOf delta gamma (now (points .entry))) (fullJump (dOf delta gamma) (now (points .entry))) ⌝ }
+    ensures { λ r. ⌜ r ≡ jumpAnswer (questionRefusal delta gamma (now (points .entry))) (fullJump (dOf delta gamma) (now (points .entry))) ⌝ }
 {
     questions::full(points, delta, gamma)
 }
@@ -140,7 +140,7 @@ pub extern "C" fn jilbaroof_full(points: &[u8], delta: u32, gamma: u32) -> Jump
 #[no_mangle]
 pub extern "C" fn jilbaroof_mismatch(points: &[u8], delta: u32, gamma: u32, p: usize) -> Jump
     ensures { λ r. ⌜
-        r ≡ jumpAnswer (mismatchAskedOf delta gamma (now (points .entry)) p) (mismatchJump (dOf delta gamma) (now (points .entry)) (p - 1)) ⌝ }
+        r ≡ jumpAnswer (mismatchRefusal delta gamma (now (points .entry)) p) (mismatchJump (dOf delta gamma) (now (points .entry)) (p - 1)) ⌝ }
 {
     questions::mismatch(points, delta, gamma, p)
 }

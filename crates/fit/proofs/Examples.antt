@@ -6,7 +6,7 @@ use Rattle.fit.specs.Reading.{near}
 use Rattle.fit.specs.Rule.{allFit, sumCost, isPlaceBy}
 use Rattle.fit.specs.Place.{isPlace}
 use Rattle.fit.specs.Listing.{upTo, places}
-use Rattle.fit.specs.Refusal.{orElse, ofProfile, ofTolerance, ofRecording, askedOf, refusalOf}
+use Rattle.fit.specs.Refusal.{orElse, ofProfile, ofTolerance, ofRecording, questionRefusal, searchRefusal}
 use Rattle.fit.specs.Answer.{soughtOf, lent, filled}
 
 -- a reading that differs by d is near, one that differs by d + 1 is not
@@ -20,6 +20,6 @@ unfolding places upTo isPlace isPlaceBy allFit sumCost near
 place-edges = refl
 
 -- no points and a delta that is too large: the lowest number is given, and a list keeps its entries
-pub refusal-edges : (refusalOf 256 0 [] [] ≡ 1) × (filled (refusalOf 256 0 [] []) (soughtOf 256 0 [] (7 ∷ [])) (lent (5 ∷ [])) ≡ lent (5 ∷ []))
-unfolding refusalOf askedOf orElse ofProfile ofTolerance ofRecording filled
+pub refusal-edges : (searchRefusal 256 0 [] [] ≡ 1) × (filled (searchRefusal 256 0 [] []) (soughtOf 256 0 [] (7 ∷ [])) (lent (5 ∷ [])) ≡ lent (5 ∷ []))
+unfolding searchRefusal questionRefusal orElse ofProfile ofTolerance ofRecording filled
 refusal-edges = (refl, refl)

@@ -10,6 +10,7 @@ pub mod Constructed
 pub mod Compiled
 pub mod Steps
 pub mod Answers
+pub mod Openings
 pub mod Alongs
 pub mod Tryings
 pub mod Filters

@@ -7,7 +7,7 @@ use lib.ListN.{length, set}
 use Rattle.fit.specs.Rule.{Rule, isPlaceBy}
 use Rattle.fit.specs.Place.{isPlace, windows}
 use Rattle.fit.specs.Listing.{upTo, overlay}
-use Rattle.fit.specs.Refusal.{refusalOf}
+use Rattle.fit.specs.Refusal.{searchRefusal}
 use Rattle.fit.specs.declared.answer.Search.{Search}
 
 -- what is sought: which of the windows below `count` are places
@@ -33,7 +33,8 @@ pub record Lent : Type 0 where
 abbrev pub lent : List ℕ → Lent
 lent list = record { list = list }
 
--- what was lent, with the places ps laid in
+-- what was lent, with the places ps laid in. Nothing of t is used yet, here and in `tally`: where sums are kept with the places (request #107), a
+-- place's sum is t's to tell
 abbrev pub laid : Sought → List ℕ → Lent → Lent
 laid t ps entry = record { list = overlay ps (entry .list) }
 
@@ -63,7 +64,7 @@ pub record Answer (num : ℕ) (t : Sought) (tried : ℕ) (entry : Lent) (r : Sea
 -- the contract of every searcher for ordinary profiles: only `tried` differs
 abbrev pub Answers : ℕ → ℕ → List ℕ → List ℕ → ℕ → Lent → Search → Lent → Type 0
 Answers delta gamma x y tried entry r final =
-    Answer (refusalOf delta gamma x y) (soughtOf delta gamma x y) tried entry r final
+    Answer (searchRefusal delta gamma x y) (soughtOf delta gamma x y) tried entry r final
 
 -- one window more was tried, at s, and it was a place or not: the counts, and what was lent
 unfoldable pub noted : Bool → Search → Search

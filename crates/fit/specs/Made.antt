@@ -1,11 +1,13 @@
--- The checked constructors of tolerance and profile. Assumes nothing.
+-- The checked constructors of tolerance and profile, and the checked input of a call. Assumes nothing.
 use Prim.Native.Nat.{ℕ, zero, suc}
 use mathlib.Core.List.{List}
-use lib.ListN.{length, replicate}
+use lib.ListN.{length, take, replicate}
 use Rattle.fit.specs.Listing.{overlay}
-use Rattle.fit.specs.Refusal.{maxPoints, ofProfile, ofTolerance}
+use Rattle.fit.specs.Refusal.{maxPoints, ofProfile, ofTolerance, questionRefusal, searchRefusal}
 use Rattle.fit.specs.declared.limits.MadeTolerance.{MadeTolerance}
 use Rattle.fit.specs.declared.limits.MadeProfile.{MadeProfile}
+use Rattle.fit.specs.declared.limits.Profile.{Profile}
+use Rattle.fit.specs.declared.limits.Checked.{Checked}
 
 -- by the refusal's number: the tolerance, or the number and zeros
 unfoldable pub madeTolerance : ℕ → ℕ → ℕ → MadeTolerance
@@ -22,3 +24,16 @@ madeProfile (suc num) x = record { refusal = suc num; profile = record { points 
 
 abbrev pub profileMade : List ℕ → MadeProfile
 profileMade x = madeProfile (ofProfile x) x
+
+-- the points that a profile holds
+abbrev pub pointsOf : Profile → List ℕ
+pointsOf p = take (p .m) (p .points)
+
+-- the input of a question, and of a search: the first reason's number, and what the two constructors made
+abbrev pub questionChecked : ℕ → ℕ → List ℕ → Checked
+questionChecked delta gamma x =
+    record { refusal = questionRefusal delta gamma x; profile = profileMade x .profile; tolerance = toleranceMade delta gamma .tolerance }
+
+abbrev pub searchChecked : ℕ → ℕ → List ℕ → List ℕ → Checked
+searchChecked delta gamma x y =
+    record { refusal = searchRefusal delta gamma x y; profile = profileMade x .profile; tolerance = toleranceMade delta gamma .tolerance }

@@ -38,12 +38,12 @@ unfoldable pub ofRecording : List ℕ → ℕ
 ofRecording y = cond (ltb maxReadings (length y)) 3 0
 
 -- the refusal of a question: 1 or 2, and 0 where it is accepted
-unfoldable pub askedOf : ℕ → ℕ → List ℕ → ℕ
-askedOf delta gamma x = orElse (ofProfile x) (ofTolerance delta gamma)
+unfoldable pub questionRefusal : ℕ → ℕ → List ℕ → ℕ
+questionRefusal delta gamma x = orElse (ofProfile x) (ofTolerance delta gamma)
 
 -- the refusal of a search: 1, 2 or 3, and 0 where it is accepted
-unfoldable pub refusalOf : ℕ → ℕ → List ℕ → List ℕ → ℕ
-refusalOf delta gamma x y = orElse (askedOf delta gamma x) (ofRecording y)
+unfoldable pub searchRefusal : ℕ → ℕ → List ℕ → List ℕ → ℕ
+searchRefusal delta gamma x y = orElse (questionRefusal delta gamma x) (ofRecording y)
 
 -- the table's reasons, as facts
 abbrev pub BadProfile : List ℕ → Type 0

@@ -1,6 +1,5 @@
 // The answer of a search, and where it begins.
 ghost use mathlib.Core.Path.{_≡_};
-ghost use Rattle.fit.specs.Refusal.{refusalOf};
 ghost use Rattle.fit.specs.Answer.{begun};
 
 // The number of the refusal and counts of 0; or 0, the total of places and the count of windows tried.
@@ -11,11 +10,10 @@ pub struct Search {
     pub tried: usize,
 }
 
-// The answer before the first window.
-pub fn begin(points: &[u8], delta: u32, gamma: u32, recording: &[u8]) -> Search
-    ensures { λ r. ⌜ r ≡ begun (refusalOf delta gamma (now (points .entry)) (now (recording .entry))) ⌝ }
+// The answer before the first window; refused by `number`, it stays so.
+pub fn begin(number: u32) -> Search
+    ensures { λ r. ⌜ r ≡ begun number ⌝ }
 {
-    let number = super::limits::refusal(points, delta, gamma, recording);
     Search {
         refusal: number,
         total: 0,

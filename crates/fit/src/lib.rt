@@ -5,10 +5,11 @@ mod limits;
 
 pub use answer::Search;
 pub use answer::begin;
+pub use limits::Checked;
 pub use limits::MadeProfile;
 pub use limits::MadeTolerance;
 pub use limits::Profile;
 pub use limits::Tolerance;
-pub use limits::asked;
-pub use limits::refusal;
-pub use limits::smaller;
+pub use limits::checked_question;
+pub use limits::checked_search;
+pub use limits::or_else;

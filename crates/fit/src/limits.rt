@@ -1,10 +1,11 @@
 // The checked types of a call's input, and the number by which bad input is refused.
 ghost use mathlib.Core.Path.{_≡_};
-ghost use Prim.Native.Nat.{_≤_, min};
+ghost use Prim.Native.Nat.{_≤_};
 ghost use lib.ListN.{length, replicate};
+ghost use Rattle.fit.specs.Place.{dOf, gOf};
 ghost use Rattle.fit.specs.Listing.{overlay};
-ghost use Rattle.fit.specs.Refusal.{maxPoints, maxDelta, maxGamma, maxReadings, askedOf, refusalOf};
-ghost use Rattle.fit.specs.Made.{toleranceMade, profileMade};
+ghost use Rattle.fit.specs.Refusal.{maxPoints, maxDelta, maxGamma, maxReadings, orElse, ofRecording};
+ghost use Rattle.fit.specs.Made.{toleranceMade, profileMade, questionChecked, searchChecked};
 
 // The two tolerances: `delta` bounds each difference, `gamma` their sum.
 pub struct Tolerance {
@@ -43,6 +44,32 @@ impl Tolerance {
             refusal: 0,
             tolerance: Tolerance { delta, gamma },
         }
+    }
+
+    // d, by which readings are near.
+    pub fn d(self) -> u32
+        ensures { λ r. ⌜ r ≡ dOf (self .delta) (self .gamma) ⌝ }
+    {
+        if self.delta <= self.gamma {
+            self.delta
+        } else {
+            self.gamma
+        }
+    }
+
+    // g, the most that the sum of a place of m points can be.
+    pub fn g(self, m: u32) -> u32
+        ensures { λ r. ⌜ r ≡ gOf m (self .delta) (self .gamma) ⌝ }
+    {
+        let d = self.d();
+        if d == 0 {
+            return 0;
+        }
+        // m times d is built only where it is at most gamma, so that it fits for every m
+        if self.gamma / d < m {
+            return self.gamma;
+        }
+        m * d
     }
 }
 
@@ -92,6 +119,20 @@ impl Profile {
             profile: Profile { points: held, m },
         }
     }
+
+    // How many points it has.
+    pub fn m(self) -> usize
+        ensures { λ r. ⌜ r ≡ self .m ⌝ }
+    {
+        self.m
+    }
+
+    // Its points, and zeros beyond them.
+    pub fn points(self) -> [u8; Profile::MAX_POINTS]
+        ensures { λ r. ⌜ r ≡ self .points ⌝ }
+    {
+        self.points
+    }
 }
 
 // The points in an array, and zeros beyond them.
@@ -108,35 +149,50 @@ fn held_points(points: &[u8]) -> [u8; Profile::MAX_POINTS]
     held
 }
 
-// The refusal of a question: the first of 1 and 2 that applies, or 0.
-pub fn asked(points: &[u8], delta: u32, gamma: u32) -> u32
-    ensures { λ r. ⌜ r ≡ askedOf delta gamma (now (points .entry)) ⌝ }
-{
-    let profile = Profile::new(points);
-    if profile.refusal != 0 {
-        return profile.refusal;
-    }
-    let tolerance = Tolerance::new(delta, gamma);
-    tolerance.refusal
+// What a call is asked with, once it is looked at: the number of the refusal, or 0 and the checked input.
+pub struct Checked {
+    pub refusal: u32,
+    pub profile: Profile,
+    pub tolerance: Tolerance,
 }
 
-// The refusal of a search: the first of 1, 2 and 3 that applies, or 0.
-pub fn refusal(points: &[u8], delta: u32, gamma: u32, recording: &[u8]) -> u32
-    ensures { λ r. ⌜ r ≡ refusalOf delta gamma (now (points .entry)) (now (recording .entry)) ⌝ }
+// The input of a question, refused by 1 or 2.
+pub fn checked_question(points: &[u8], delta: u32, gamma: u32) -> Checked
+    ensures { λ r. ⌜ r ≡ questionChecked delta gamma (now (points .entry)) ⌝ }
 {
-    let number = asked(points, delta, gamma);
-    if number != 0 {
-        return number;
+    let made = Profile::new(points);
+    let told = Tolerance::new(delta, gamma);
+    let profile = made.profile;
+    let tolerance = told.tolerance;
+    Checked {
+        refusal: or_else(made.refusal, told.refusal),
+        profile,
+        tolerance,
     }
+}
+
+// The input of a search, refused by 1, 2 or 3.
+pub fn checked_search(points: &[u8], delta: u32, gamma: u32, recording: &[u8]) -> Checked
+    ensures { λ r. ⌜ r ≡ searchChecked delta gamma (now (points .entry)) (now (recording .entry)) ⌝ }
+{
+    let mut checked = checked_question(points, delta, gamma);
+    checked.refusal = or_else(checked.refusal, of_recording(recording));
+    checked
+}
+
+fn of_recording(recording: &[u8]) -> u32
+    ensures { λ r. ⌜ r ≡ ofRecording (now (recording .entry)) ⌝ }
+{
     if Profile::MAX_READINGS < recording.len() {
-        return 3;
+        3
+    } else {
+        0
     }
-    0
 }
 
-// The smaller of two numbers: d of delta and gamma, and g of gamma and m times d.
-pub fn smaller(a: u32, b: u32) -> u32
-    ensures { λ r. ⌜ r ≡ min a b ⌝ }
+// The first of two numbers that is not 0: the order of the refusals is a chain of these.
+pub fn or_else(first: u32, later: u32) -> u32
+    ensures { λ r. ⌜ r ≡ orElse first later ⌝ }
 {
-    if a <= b { a } else { b }
+    if first == 0 { later } else { first }
 }

@@ -14,13 +14,15 @@ pub fn search(points: &[u8], delta: u32, gamma: u32, recording: &[u8], list: &mu
         (length (maximalWalk (dOf delta gamma) (now (points .entry)) (now (recording .entry))))
         (lent (now (list .entry))) r (lent (now (list .exit))) ⌝ }
 {
-    let mut found = fit::begin(points, delta, gamma, recording);
+    let checked = fit::checked_search(points, delta, gamma, recording);
+    let mut found = fit::begin(checked.refusal);
     if found.refusal != 0 {
         return found;
     }
     let m = points.len();
-    let d = fit::smaller(delta, gamma);
-    let spans = ordinary::spans_of(points, delta);
+    let tolerance = checked.tolerance;
+    let d = tolerance.d();
+    let spans = ordinary::spans_of(checked.profile, delta);
     let next = tables::next_table(&spans, m, gamma);
     let compared = comparing::compared_of(points, d);
     let order = compared.order;

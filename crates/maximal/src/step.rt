@@ -14,12 +14,6 @@ ghost use Rattle.comparing.specs.Order.{compareOrder};
 ghost use Rattle.comparing.specs.Writing.{HoldsOrder};
 ghost use Rattle.maximal.specs.Walk.{nearAt};
 
-fn wide(a: u8) -> usize
-    ensures { λ r. ⌜ (r ≡ a) × (r ≤ 255) ⌝ }
-{
-    a as usize
-}
-
 // How many points, in compare order, are near in the window at s before one that is not.
 pub(crate) fn near_points(points: &[u8], d: u32, order: &[u8], recording: &[u8], s: usize) -> usize
     requires { ⌜ HoldsOrder d (now points) (now order) × (length (now points) ≤ maxPoints) × (s + length (now points) ≤ length (now recording)) ⌝ }
@@ -29,7 +23,7 @@ pub(crate) fn near_points(points: &[u8], d: u32, order: &[u8], recording: &[u8],
 {
     let mut j = 0;
     while j < points.len() {
-        let q = wide(order[j]);
+        let q = reading::index(order[j]);
         if reading::is_near(d, points[q], recording[s + q]) {
             j += 1;
         } else {
@@ -75,8 +69,8 @@ pub(crate) fn compared_jump(
     ensures { λ r. ⌜ r ≡ cond (ltb leading m) (getD (now (jumps .entry)) (getD (now (order .entry)) leading 0) 0) full ⌝ }
 {
     if leading < m {
-        let p = wide(order[leading]);
-        return wide(jumps[p]);
+        let p = reading::index(order[leading]);
+        return reading::index(jumps[p]);
     }
     full
 }

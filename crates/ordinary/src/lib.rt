@@ -1,8 +1,8 @@
 // An ordinary profile, whose points are readings and share one delta, compiled once per search to four numbers a point.
 ghost use mathlib.Core.Path.{_≡_};
 ghost use Prim.Native.Nat.{_≤_};
-ghost use lib.ListN.{length};
 ghost use Rattle.fit.specs.Refusal.{maxPoints, maxDelta};
+ghost use Rattle.fit.specs.Made.{pointsOf};
 ghost use Rattle.fit.specs.Spans.{spansOf};
 
 fn wide(a: u8) -> u16
@@ -12,14 +12,16 @@ fn wide(a: u8) -> u16
 }
 
 // The four numbers of each point, in point order, and zeros beyond them.
-pub fn spans_of(points: &[u8], delta: u32) -> [u16; 4 * fit::Profile::MAX_POINTS]
-    requires { ⌜ (length (now points) ≤ maxPoints) × (delta ≤ maxDelta) ⌝ }
-    ensures { λ r. ⌜ r ≡ spansOf delta (now (points .entry)) ⌝ }
+pub fn spans_of(profile: fit::Profile, delta: u32) -> [u16; 4 * fit::Profile::MAX_POINTS]
+    requires { ⌜ (profile .m ≤ maxPoints) × (delta ≤ maxDelta) ⌝ }
+    ensures { λ r. ⌜ r ≡ spansOf delta (pointsOf profile) ⌝ }
 {
+    let points = profile.points();
+    let m = profile.m();
     let d = delta as u16;
     let mut spans = [0u16; 4 * fit::Profile::MAX_POINTS];
     let mut i = 0;
-    while i < points.len() {
+    while i < m {
         let p = wide(points[i]);
         spans[4 * i] = wide(reading::least_near(points[i], delta));
         spans[4 * i + 1] = p + d;

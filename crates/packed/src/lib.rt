@@ -21,13 +21,15 @@ pub fn search(
         PackedAnswers delta gamma (now (points .entry)) (now (recording .entry)) (lent (now (list .entry))) r
         (lent (now (list .exit))) ⌝ }
 {
-    let mut begun = fit::begin(points, delta, gamma, recording);
+    let checked = fit::checked_search(points, delta, gamma, recording);
+    let mut begun = fit::begin(checked.refusal);
     if begun.refusal != 0 {
         return begun;
     }
     let m = points.len() as u32;
-    let d = fit::smaller(delta, gamma);
-    let g = fit::smaller(gamma, m * d);
+    let tolerance = checked.tolerance;
+    let d = tolerance.d();
+    let g = tolerance.g(m);
     let b = counters::low_bits(g);
     if WORD_BITS < m * (b + 1) {
         begun.refusal = 4;

@@ -6,7 +6,7 @@ use mathlib.Core.Logic.{_⊎_}
 use mathlib.Core.Path.{_≡_}
 use lib.ListN.{length}
 use lib.Dec.{eqb, ltb}
-use Rattle.fit.specs.Refusal.{orElse, askedOf}
+use Rattle.fit.specs.Refusal.{orElse, questionRefusal}
 use Rattle.questions.specs.declared.Jump.{Jump}
 
 -- by the refusal's number: the jump; or the number "with any jump 0"
@@ -22,5 +22,5 @@ abbrev pub BadPoint : ℕ → ℕ → Type 0
 BadPoint m p = (p ≡ 0) ⊎ (m < p)
 
 -- the refusal of the mismatch question: 1, 2 or 6, and 0 where it is accepted
-abbrev pub mismatchAskedOf : ℕ → ℕ → List ℕ → ℕ → ℕ
-mismatchAskedOf delta gamma x p = orElse (askedOf delta gamma x) (ofPoint (length x) p)
+abbrev pub mismatchRefusal : ℕ → ℕ → List ℕ → ℕ → ℕ
+mismatchRefusal delta gamma x p = orElse (questionRefusal delta gamma x) (ofPoint (length x) p)

@@ -3,9 +3,9 @@ ghost use mathlib.Core.Path.{_≡_};
 ghost use Prim.Native.Nat.{_-_};
 ghost use lib.ListN.{length};
 ghost use Rattle.fit.specs.Place.{fitOf, dOf};
-ghost use Rattle.fit.specs.Refusal.{askedOf};
+ghost use Rattle.fit.specs.Refusal.{questionRefusal};
 ghost use Rattle.jumps.specs.Jumps.{lastJump, nextJump, afterJump, mismatchJump, fullJump};
-ghost use Rattle.questions.specs.Asking.{jumpAnswer, mismatchAskedOf};
+ghost use Rattle.questions.specs.Asking.{jumpAnswer, ofPoint, mismatchRefusal};
 
 // The number of the refusal and a jump of 0; or 0 and the jump.
 #[repr(C)]
@@ -14,111 +14,107 @@ pub struct Jump {
     pub jump: usize,
 }
 
-// The answer of a question that is refused by `number`, or accepted where that is 0.
-fn answer(number: u32, jump: usize) -> Jump
-    ensures { λ r. ⌜ r ≡ jumpAnswer number jump ⌝ }
+// The answer of a question that is refused.
+fn refused(number: u32) -> Jump
+    ensures { λ r. ⌜ r ≡ record { refusal = number; jump = 0 } ⌝ }
 {
-    if number != 0 {
-        return Jump {
-            refusal: number,
-            jump: 0,
-        };
-    }
     Jump {
         refusal: number,
-        jump,
+        jump: 0,
     }
-}
-
-fn size(a: u8) -> usize
-    ensures { λ r. ⌜ r ≡ a ⌝ }
-{
-    a as usize
 }
 
 // The last-reading jump for reading a.
 pub fn last_reading(points: &[u8], delta: u32, gamma: u32, a: u8) -> Jump
     ensures { λ r. ⌜
-        r ≡ jumpAnswer (askedOf delta gamma (now (points .entry)))
+        r ≡ jumpAnswer (questionRefusal delta gamma (now (points .entry)))
         (lastJump (fitOf (dOf delta gamma) (now (points .entry))) (length (now (points .entry))) a) ⌝ }
 {
-    let number = fit::asked(points, delta, gamma);
-    if number != 0 {
-        return answer(number, 0);
+    let checked = fit::checked_question(points, delta, gamma);
+    if checked.refusal != 0 {
+        return refused(checked.refusal);
     }
-    let spans = ordinary::spans_of(points, delta);
-    let jump = tables::last_jump(&spans, points.len(), gamma, a);
-    answer(0, jump)
+    let spans = ordinary::spans_of(checked.profile, delta);
+    Jump {
+        refusal: 0,
+        jump: tables::last_jump(&spans, points.len(), gamma, a),
+    }
 }
 
 // The next-reading jump for reading a.
 pub fn next_reading(points: &[u8], delta: u32, gamma: u32, a: u8) -> Jump
     ensures { λ r. ⌜
-        r ≡ jumpAnswer (askedOf delta gamma (now (points .entry)))
+        r ≡ jumpAnswer (questionRefusal delta gamma (now (points .entry)))
         (nextJump (fitOf (dOf delta gamma) (now (points .entry))) (length (now (points .entry))) a) ⌝ }
 {
-    let number = fit::asked(points, delta, gamma);
-    if number != 0 {
-        return answer(number, 0);
+    let checked = fit::checked_question(points, delta, gamma);
+    if checked.refusal != 0 {
+        return refused(checked.refusal);
     }
-    let spans = ordinary::spans_of(points, delta);
-    let jump = tables::next_jump(&spans, points.len(), gamma, a);
-    answer(0, jump)
+    let spans = ordinary::spans_of(checked.profile, delta);
+    Jump {
+        refusal: 0,
+        jump: tables::next_jump(&spans, points.len(), gamma, a),
+    }
 }
 
 // The after-check jump.
 pub fn after_check(points: &[u8], delta: u32, gamma: u32) -> Jump
-    ensures { λ r. ⌜ r ≡ jumpAnswer (askedOf delta gamma (now (points .entry))) (afterJump (dOf delta gamma) (now (points .entry))) ⌝ }
+    ensures { λ r. ⌜ r ≡ jumpAnswer (questionRefusal delta gamma (now (points .entry))) (afterJump (dOf delta gamma) (now (points .entry))) ⌝ }
 {
-    let number = fit::asked(points, delta, gamma);
-    if number != 0 {
-        return answer(number, 0);
+    let checked = fit::checked_question(points, delta, gamma);
+    if checked.refusal != 0 {
+        return refused(checked.refusal);
     }
-    let d = fit::smaller(delta, gamma);
-    let jump = tables::after_jump(points, d);
-    answer(0, jump)
+    let tolerance = checked.tolerance;
+    let d = tolerance.d();
+    Jump {
+        refusal: 0,
+        jump: tables::after_jump(points, d),
+    }
 }
 
 // The full jump.
 pub fn full(points: &[u8], delta: u32, gamma: u32) -> Jump
-    ensures { λ r. ⌜ r ≡ jumpAnswer (askedOf delta gamma (now (points .entry))) (fullJump (dOf delta gamma) (now (points .entry))) ⌝ }
+    ensures { λ r. ⌜ r ≡ jumpAnswer (questionRefusal delta gamma (now (points .entry))) (fullJump (dOf delta gamma) (now (points .entry))) ⌝ }
 {
-    let number = fit::asked(points, delta, gamma);
-    if number != 0 {
-        return answer(number, 0);
+    let checked = fit::checked_question(points, delta, gamma);
+    if checked.refusal != 0 {
+        return refused(checked.refusal);
     }
-    let d = fit::smaller(delta, gamma);
-    let jump = tables::full_jump(points, d);
-    answer(0, jump)
+    let tolerance = checked.tolerance;
+    let d = tolerance.d();
+    Jump {
+        refusal: 0,
+        jump: tables::full_jump(points, d),
+    }
 }
 
 // The mismatch jump at point number p, from 1 to m.
 pub fn mismatch(points: &[u8], delta: u32, gamma: u32, p: usize) -> Jump
     ensures { λ r. ⌜
-        r ≡ jumpAnswer (mismatchAskedOf delta gamma (now (points .entry)) p) (mismatchJump (dOf delta gamma) (now (points .entry)) (p - 1)) ⌝ }
+        r ≡ jumpAnswer (mismatchRefusal delta gamma (now (points .entry)) p) (mismatchJump (dOf delta gamma) (now (points .entry)) (p - 1)) ⌝ }
 {
-    let number = mismatch_asked(points, delta, gamma, p);
+    let checked = fit::checked_question(points, delta, gamma);
+    let number = fit::or_else(checked.refusal, of_point(points.len(), p));
     if number != 0 {
-        return answer(number, 0);
+        return refused(number);
     }
-    let d = fit::smaller(delta, gamma);
-    let made = comparing::compared_of(points, d);
-    let jump = size(made.jumps[p - 1]);
-    answer(0, jump)
+    let tolerance = checked.tolerance;
+    let compared = comparing::compared_of(points, tolerance.d());
+    Jump {
+        refusal: 0,
+        jump: reading::index(compared.jumps[p - 1]),
+    }
 }
 
-// The refusal of the mismatch question.
-fn mismatch_asked(points: &[u8], delta: u32, gamma: u32, p: usize) -> u32
-    ensures { λ r. ⌜ r ≡ mismatchAskedOf delta gamma (now (points .entry)) p ⌝ }
+fn of_point(m: usize, p: usize) -> u32
+    ensures { λ r. ⌜ r ≡ ofPoint m p ⌝ }
 {
-    let number = fit::asked(points, delta, gamma);
-    if number != 0 {
-        return number;
-    }
     if p == 0 {
         return 6;
     }
-    if points.len() < p {
+    if m < p {
         return 6;
     }
     0

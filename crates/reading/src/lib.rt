@@ -1,10 +1,12 @@
-// Readings: differences, and which of them are near.
+// Readings: differences, which of them are near, and a byte as an index.
 ghost use mathlib.Core.Path.{_≡_};
 ghost use Prim.Native.Nat.{_-_, _≤_, max};
 ghost use Rattle.fit.specs.Reading.{lowest, highest, diff, alike, near};
 
-// The least value that is a reading.
+// The least value that is a reading, and the greatest.
 const LOWEST: u32 = 0;
+
+pub const HIGHEST: u8 = 255;
 
 // The difference of a and b.
 pub fn differ(a: u8, b: u8) -> u32
@@ -44,4 +46,11 @@ pub fn least_near(p: u8, delta: u32) -> u8
         return LOWEST as u8;
     }
     low as u8
+}
+
+// A byte as an index, or as any number that is counted with.
+pub fn index(a: u8) -> usize
+    ensures { λ r. ⌜ (r ≡ a) × (r ≤ highest) ⌝ }
+{
+    a as usize
 }

@@ -3,7 +3,7 @@ use Prim.Native.Nat.{ℕ, zero, suc}
 use mathlib.Core.List.{List, [], _∷_, _++_}
 use lib.ListN.{length}
 use Rattle.fit.specs.Place.{fitOf, dOf, windows}
-use Rattle.fit.specs.Refusal.{refusalOf}
+use Rattle.fit.specs.Refusal.{searchRefusal}
 use Rattle.fit.specs.Listing.{places}
 use Rattle.fit.specs.Answer.{soughtOf, outcome}
 use Rattle.jumps.specs.Jumps.{afterJump}
@@ -45,27 +45,27 @@ module _ (delta gamma : ℕ) (x y : List ℕ) where
 
   -- plain and packed count all windows, the others those of their walks
   abbrev pub plainLine : List ℕ
-  plainLine = lineFor plainName (refusalOf delta gamma x y) (windows (length x) (length y))
+  plainLine = lineFor plainName (searchRefusal delta gamma x y) (windows (length x) (length y))
 
   abbrev pub packedLine : List ℕ
   packedLine = lineFor packedName (packedRefusal delta gamma x y) (windows (length x) (length y))
 
   abbrev pub lastLine : List ℕ
   lastLine =
-      lineFor lastName (refusalOf delta gamma x y) (length (lastWalk (fitOf (dOf delta gamma) x) (length x) (afterJump (dOf delta gamma) x) y))
+      lineFor lastName (searchRefusal delta gamma x y) (length (lastWalk (fitOf (dOf delta gamma) x) (length x) (afterJump (dOf delta gamma) x) y))
 
   abbrev pub skipLine : List ℕ
-  skipLine = lineFor skipName (refusalOf delta gamma x y) (length (skipWalk (fitOf (dOf delta gamma) x) (length x) y))
+  skipLine = lineFor skipName (searchRefusal delta gamma x y) (length (skipWalk (fitOf (dOf delta gamma) x) (length x) y))
 
   abbrev pub maximalLine : List ℕ
-  maximalLine = lineFor maximalName (refusalOf delta gamma x y) (length (maximalWalk (dOf delta gamma) x y))
+  maximalLine = lineFor maximalName (searchRefusal delta gamma x y) (length (maximalWalk (dOf delta gamma) x y))
 
   abbrev pub otherLines : List ℕ
   otherLines = packedLine ++ lastLine ++ skipLine ++ maximalLine
 
   -- "It writes a line per searcher .. Then come all places found by plain, one to a line"
   abbrev pub reportOn : List ℕ
-  reportOn = plainLine ++ otherLines ++ linesOf (foundBy (refusalOf delta gamma x y) (places delta gamma x y))
+  reportOn = plainLine ++ otherLines ++ linesOf (foundBy (searchRefusal delta gamma x y) (places delta gamma x y))
 
 -- "Refusal 5 gives only `input refused 5`"
 unfoldable pub reportBy : ℕ → List ℕ → List ℕ

@@ -5,13 +5,13 @@ use mathlib.Core.Path.{_≡_}
 use mathlib.Core.List.{List, [], _∷_}
 use lib.ListN.{length, replicate}
 use Rattle.fit.specs.Place.{fitOf, dOf, windows}
-use Rattle.fit.specs.Refusal.{askedOf, refusalOf}
+use Rattle.fit.specs.Refusal.{questionRefusal, searchRefusal}
 use Rattle.fit.specs.Answer.{soughtOf, all}
 use Rattle.counters.specs.Width.{widthOf}
 use Rattle.packed.specs.Fourth.{bitsOf, packedRefusal}
 use Rattle.jumps.specs.Jumps.{lastJump, afterJump, mismatchJump}
 use Rattle.questions.specs.declared.Jump.{Jump}
-use Rattle.questions.specs.Asking.{jumpAnswer, mismatchAskedOf}
+use Rattle.questions.specs.Asking.{jumpAnswer, mismatchRefusal}
 use Rattle.last.specs.Walk.{lastWalk}
 use Rattle.skip.specs.Walk.{skipWalk}
 use Rattle.maximal.specs.Walk.{maximalWalk}
@@ -30,7 +30,7 @@ abbrev answered : Jump → List ℕ
 answered r = r .refusal ∷ r .jump ∷ []
 
 abbrev pub found : Row → List ℕ
-found (places-are x y delta gamma places) = refusalOf delta gamma x y ∷ all (soughtOf delta gamma x y)
+found (places-are x y delta gamma places) = searchRefusal delta gamma x y ∷ all (soughtOf delta gamma x y)
 found (tried-are x y delta gamma plain last skip maximal) =
     windows (length x) (length y)
     ∷ length (lastWalk (fitOf (dOf delta gamma) x) (length x) (afterJump (dOf delta gamma) x) y)
@@ -39,8 +39,8 @@ found (tried-are x y delta gamma plain last skip maximal) =
     ∷ []
 found (width-is g width) = widthOf g ∷ []
 found (packed-is x delta gamma bits refusal) = bitsOf delta gamma (length x) ∷ packedRefusal delta gamma x [] ∷ []
-found (last-reading-is x delta gamma a jump) = answered (jumpAnswer (askedOf delta gamma x) (lastJump (fitOf (dOf delta gamma) x) (length x) a))
-found (mismatch-is x delta gamma p jump) = answered (jumpAnswer (mismatchAskedOf delta gamma x p) (mismatchJump (dOf delta gamma) x (p - 1)))
+found (last-reading-is x delta gamma a jump) = answered (jumpAnswer (questionRefusal delta gamma x) (lastJump (fitOf (dOf delta gamma) x) (length x) a))
+found (mismatch-is x delta gamma p jump) = answered (jumpAnswer (mismatchRefusal delta gamma x p) (mismatchJump (dOf delta gamma) x (p - 1)))
 
 -- what the sheet has: no row's search or question is refused, but by packed
 abbrev pub stated : Row → List ℕ

@@ -56,17 +56,11 @@ fn jump_table(spans: &[u16], m: usize, gamma: u32, top: usize) -> [u8; 256]
     table
 }
 
-fn wide(jump: u8) -> usize
-    ensures { λ r. ⌜ (r ≡ jump) × (r ≤ highest) ⌝ }
-{
-    jump as usize
-}
-
 // The entry of reading a.
 pub fn jump_at(table: &[u8; 256], a: u8) -> usize
     ensures { λ r. ⌜ (r ≡ getD (now (table .entry)) a 0) × (r ≤ highest) ⌝ }
 {
-    wide(table[a as usize])
+    reading::index(table[reading::index(a)])
 }
 
 // The last-reading jumps of all readings.

@@ -1,4 +1,4 @@
-// Reads framed cases from standard input and prints, for each, what every public function answers. tests/ makes the cases and knows the
+// Reads framed cases from standard input and prints, for each, what every searcher and every question answers. tests/ makes the cases and knows the
 // answers; specs/Head.antt of the crate `framed` says what a frame is.
 mod asked;
 mod lines;

@@ -7,9 +7,11 @@ use native.Mathlib.Omega.{arith}
 use lib.ListN.{length, set}
 use Rattle.fit.specs.Rule.{Rule, isPlaceBy, SameRule}
 use Rattle.fit.specs.Place.{ruleOf, isPlace, windows}
-use Rattle.fit.specs.Refusal.{refusalOf, Accepted}
+use Rattle.fit.specs.Refusal.{searchRefusal, Accepted}
 use Rattle.fit.specs.Listing.{places, overlay}
 use Rattle.fit.specs.Answer.{Sought, soughtBy, soughtOf, all, Lent, lent, begun, outcome, filled, Answer, Answers, noted, listed, Noted}
+use Rattle.fit.specs.Made.{searchChecked}
+use Rattle.fit.specs.declared.limits.Checked.{Checked}
 use Rattle.fit.specs.declared.answer.Search.{Search}
 use Rattle.fit.proofs.Laws.Listings.{up-same, up-short}
 use Rattle.fit.proofs.Laws.Rules.{same-place}
@@ -19,7 +21,11 @@ use Rattle.fit.proofs.Laws.Refusals.{accepted, none-exactly}
 begun-number : (num : ℕ) {r : Search} → r ≡ begun num → r .refusal ≡ num
 begun-number num e = ap (λ (r : Search). r .refusal) e
 
--- is refused
+-- its number is that of its checked input
+pub begins : (delta gamma : ℕ) (x y : List ℕ) {q : Checked} {r : Search} → q ≡ searchChecked delta gamma x y → r ≡ begun (q .refusal) → r ≡ begun (searchRefusal delta gamma x y)
+begins delta gamma x y e b = b ∙ ap (λ (q : Checked). begun (q .refusal)) e
+
+-- it is refused
 refused-by : (num : ℕ) (t : Sought) (tried : ℕ) (entry : Lent) → (num ≡ 0 → ⊥) → Answer num t tried entry (begun num) entry
 unfolding outcome filled
 refused-by zero t tried entry h = absurd (h refl)
@@ -35,8 +41,8 @@ none-refused num e z = sym (begun-number num e) ∙ z
 pub begun-none : (num : ℕ) {r : Search} → r ≡ begun num → r .refusal ≡ 0 → r ≡ begun 0
 begun-none num e z = e ∙ ap begun (none-refused num e z)
 
-pub begun-accepted : (delta gamma : ℕ) (x y : List ℕ) {r : Search} → r ≡ begun (refusalOf delta gamma x y) → r .refusal ≡ 0 → Accepted delta gamma x y
-begun-accepted delta gamma x y e z = accepted delta gamma x y (none-refused (refusalOf delta gamma x y) e z)
+pub begun-accepted : (delta gamma : ℕ) (x y : List ℕ) {r : Search} → r ≡ begun (searchRefusal delta gamma x y) → r .refusal ≡ 0 → Accepted delta gamma x y
+begun-accepted delta gamma x y e z = accepted delta gamma x y (none-refused (searchRefusal delta gamma x y) e z)
 
 -- ---- the answer over spans is the answer for the profile: their rules ask the same
 same-sought : (num : ℕ) (t t′ : Sought) (tried : ℕ) {entry final : Lent} {r : Search} → all t ≡ all t′ → Answer num t tried entry r final → Answer num t′ tried entry r final
@@ -81,7 +87,7 @@ module _ (delta gamma : ℕ) (x y : List ℕ) (tried : ℕ) (entry final : List 
       (rw (none, sought-places delta gamma x y) at (a .result), ap (λ (v : Lent). v .list) (rw (none, sought-places delta gamma x y) at (a .lists)))
 
   -- refused: "its number with all counts 0", and "the lent list keeps every entry"
-  pub answer-refused : (num : ℕ) → refusalOf delta gamma x y ≡ suc num → (r ≡ record { refusal = suc num; total = 0; tried = 0 }) × (final ≡ entry)
+  pub answer-refused : (num : ℕ) → searchRefusal delta gamma x y ≡ suc num → (r ≡ record { refusal = suc num; total = 0; tried = 0 }) × (final ≡ entry)
   unfolding outcome filled
   answer-refused num e = (rw e at (a .result), ap (λ (v : Lent). v .list) (rw e at (a .lists)))
 

@@ -58,3 +58,9 @@ overlay-at [] entry k h l = absurd (not-suc-le-zero h)
 overlay-at (p ∷ ps) [] k h l = absurd (not-suc-le-zero l)
 overlay-at (p ∷ ps) (e ∷ entry) zero h l = refl
 overlay-at (p ∷ ps) (e ∷ entry) (suc k) h l = overlay-at ps entry k (le-of-suc-le-suc h) (le-of-suc-le-suc l)
+
+pub take-overlay : (ps entry : List ℕ) → length ps ≤ length entry → take (length ps) (overlay ps entry) ≡ ps
+unfolding overlay
+take-overlay [] entry l = refl
+take-overlay (p ∷ ps) [] l = absurd (not-suc-le-zero l)
+take-overlay (p ∷ ps) (e ∷ entry) l = ap (λ (k : List ℕ). p ∷ k) (take-overlay ps entry (le-of-suc-le-suc l))

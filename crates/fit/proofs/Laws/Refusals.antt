@@ -1,5 +1,5 @@
 -- Laws of the refusal numbers: each is given exactly when document 01's table says so. Assumes nothing.
-use mathlib.Core.Path.{_≡_, sym, _∙_}
+use mathlib.Core.Path.{_≡_, refl, sym, _∙_}
 use mathlib.Core.Bool.{Bool, true, cond}
 use mathlib.Core.Logic.{_⊎_, inl, inr, ⊎-elim, _↔_}
 use mathlib.Core.List.{List}
@@ -9,7 +9,7 @@ use lib.ListN.{length, getD}
 use lib.Dec.{eqb, ltb}
 use borrow.Author.Tests.{eqb-true, ltb-true, eq-eqb, lt-ltb}
 use Rattle.fit.specs.Reading.{lowest}
-use Rattle.fit.specs.Refusal.{maxPoints, maxDelta, maxGamma, maxReadings, orElse, ofProfile, ofTolerance, ofRecording, askedOf, refusalOf, BadProfile, BadTolerance, BadRecording, Asked, Accepted}
+use Rattle.fit.specs.Refusal.{maxPoints, maxDelta, maxGamma, maxReadings, orElse, ofProfile, ofTolerance, ofRecording, questionRefusal, searchRefusal, BadProfile, BadTolerance, BadRecording, Asked, Accepted}
 use Rattle.fit.proofs.Laws.Bools.{or-cases, or-left, or-right, is-false, le-or-lt}
 use Rattle.fit.proofs.Laws.Readings.{any-reading}
 
@@ -22,15 +22,14 @@ pub else-later : (num later : ℕ) → num ≡ 0 → orElse num later ≡ later
 unfolding orElse
 else-later num later e = rw e
 
--- as a chain of tests in code gives them: the number k is that of the first reason, and is given where it is not 0
-pub first-given : (k num later : ℕ) → k ≡ num → (k ≡ 0 → ⊥) → k ≡ orElse num later
+pub else-given : (num later : ℕ) → (num ≡ 0 → ⊥) → orElse num later ≡ num
 unfolding orElse
-first-given k zero later e h = absurd (h e)
-first-given k (suc num) later e h = e
+else-given zero later h = absurd (h refl)
+else-given (suc num) later h = refl
 
--- or it is 0, and the next reason's number is given
-pub later-given : (k num later : ℕ) {given : ℕ} → k ≡ num → k ≡ 0 → given ≡ later → given ≡ orElse num later
-later-given k num later e z g = g ∙ sym (else-later num later (sym e ∙ z))
+-- as code has it, whose number k is that of the first reason
+pub first-given : (k num later : ℕ) → k ≡ num → (k ≡ 0 → ⊥) → k ≡ orElse num later
+first-given k num later e h = e ∙ sym (else-given num later (λ z. h (e ∙ z)))
 
 -- ---- the table's tests
 given : (t : Bool) (num : ℕ) → t ≡ true → cond t num 0 ≡ num
@@ -95,13 +94,13 @@ spares-tolerance delta gamma x ok (inr h) = omega (arith, ok .gamma-small)
 
 -- the three ways of a question, each with its number
 module _ (delta gamma : ℕ) (x : List ℕ) where
-  asked-one : BadProfile x → askedOf delta gamma x ≡ 1
-  unfolding askedOf
+  asked-one : BadProfile x → questionRefusal delta gamma x ≡ 1
+  unfolding questionRefusal
   asked-one b = else-first (ofProfile x) 0 (ofTolerance delta gamma) (profile-bad x b)
 
-  asked-ways : (BadProfile x × (askedOf delta gamma x ≡ 1))
-      ⊎ (((BadProfile x → ⊥) × BadTolerance delta gamma × (askedOf delta gamma x ≡ 2)) ⊎ (Asked delta gamma x × (askedOf delta gamma x ≡ 0)))
-  unfolding askedOf
+  asked-ways : (BadProfile x × (questionRefusal delta gamma x ≡ 1))
+      ⊎ (((BadProfile x → ⊥) × BadTolerance delta gamma × (questionRefusal delta gamma x ≡ 2)) ⊎ (Asked delta gamma x × (questionRefusal delta gamma x ≡ 0)))
+  unfolding questionRefusal
   asked-ways =
       ⊎-elim (λ b. inl (b, asked-one b))
       (λ g. let past = else-later (ofProfile x) (ofTolerance delta gamma) (profile-good x (g .0) (g .1)) in
@@ -113,14 +112,14 @@ module _ (delta gamma : ℕ) (x : List ℕ) where
       (profile-or x)
 
   -- a question that is not refused has what `Asked` says, and only such a one is not refused
-  pub asked-accepted : askedOf delta gamma x ≡ 0 → Asked delta gamma x
+  pub asked-accepted : questionRefusal delta gamma x ≡ 0 → Asked delta gamma x
   asked-accepted z =
       ⊎-elim (λ w. absurd (let e : _≡_ {A = ℕ} 1 0 = sym (w .1) ∙ z in omega arith))
       (λ v. ⊎-elim (λ w. absurd (let e : _≡_ {A = ℕ} 2 0 = sym (w .2) ∙ z in omega arith)) (λ w. w .0) v)
       asked-ways
 
-  pub accepted-asked : Asked delta gamma x → askedOf delta gamma x ≡ 0
-  unfolding askedOf
+  pub accepted-asked : Asked delta gamma x → questionRefusal delta gamma x ≡ 0
+  unfolding questionRefusal
   accepted-asked ok =
       else-later (ofProfile x) (ofTolerance delta gamma) (profile-good x (ok .some) (ok .few)) ∙ tolerance-good delta gamma (ok .delta-small) (ok .gamma-small)
 
@@ -130,19 +129,19 @@ asked-real delta gamma x ok i h = any-reading (getD x i 0)
 
 -- ---- the table: each number of a search exactly when
 module _ (delta gamma : ℕ) (x y : List ℕ) where
-  later : Asked delta gamma x → refusalOf delta gamma x y ≡ ofRecording y
-  unfolding refusalOf
-  later ok = else-later (askedOf delta gamma x) (ofRecording y) (accepted-asked delta gamma x ok)
+  later : Asked delta gamma x → searchRefusal delta gamma x y ≡ ofRecording y
+  unfolding searchRefusal
+  later ok = else-later (questionRefusal delta gamma x) (ofRecording y) (accepted-asked delta gamma x ok)
 
   -- the four ways of a search, each with its number
-  pub ways : (BadProfile x × (refusalOf delta gamma x y ≡ 1))
-      ⊎ (((BadProfile x → ⊥) × BadTolerance delta gamma × (refusalOf delta gamma x y ≡ 2))
-      ⊎ ((Asked delta gamma x × BadRecording y × (refusalOf delta gamma x y ≡ 3)) ⊎ (Accepted delta gamma x y × (refusalOf delta gamma x y ≡ 0))))
-  unfolding refusalOf
+  pub ways : (BadProfile x × (searchRefusal delta gamma x y ≡ 1))
+      ⊎ (((BadProfile x → ⊥) × BadTolerance delta gamma × (searchRefusal delta gamma x y ≡ 2))
+      ⊎ ((Asked delta gamma x × BadRecording y × (searchRefusal delta gamma x y ≡ 3)) ⊎ (Accepted delta gamma x y × (searchRefusal delta gamma x y ≡ 0))))
+  unfolding searchRefusal
   ways =
-      ⊎-elim (λ w. inl (w .0, else-first (askedOf delta gamma x) 0 (ofRecording y) (w .1)))
+      ⊎-elim (λ w. inl (w .0, else-first (questionRefusal delta gamma x) 0 (ofRecording y) (w .1)))
       (λ v. inr
-      (⊎-elim (λ w. inl (w .0, w .1, else-first (askedOf delta gamma x) 1 (ofRecording y) (w .2)))
+      (⊎-elim (λ w. inl (w .0, w .1, else-first (questionRefusal delta gamma x) 1 (ofRecording y) (w .2)))
       (λ w. inr
       (⊎-elim (λ (l : length y ≤ maxReadings). inr (record { asked = w .0; short = l }, later (w .0) ∙ recording-good y l))
       (λ (l : maxReadings < length y). inl (w .0, l, later (w .0) ∙ recording-bad y l))
@@ -151,28 +150,28 @@ module _ (delta gamma : ℕ) (x y : List ℕ) where
       (asked-ways delta gamma x)
 
   -- a fact that holds each way holds
-  by-way : {A : Type 0} → (BadProfile x → refusalOf delta gamma x y ≡ 1 → A)
-      → ((BadProfile x → ⊥) → BadTolerance delta gamma → refusalOf delta gamma x y ≡ 2 → A)
-      → (Asked delta gamma x → BadRecording y → refusalOf delta gamma x y ≡ 3 → A) → (Accepted delta gamma x y → refusalOf delta gamma x y ≡ 0 → A) → A
+  by-way : {A : Type 0} → (BadProfile x → searchRefusal delta gamma x y ≡ 1 → A)
+      → ((BadProfile x → ⊥) → BadTolerance delta gamma → searchRefusal delta gamma x y ≡ 2 → A)
+      → (Asked delta gamma x → BadRecording y → searchRefusal delta gamma x y ≡ 3 → A) → (Accepted delta gamma x y → searchRefusal delta gamma x y ≡ 0 → A) → A
   by-way one two three none =
       ⊎-elim (λ w. one (w .0) (w .1)) (λ v. ⊎-elim (λ w. two (w .0) (w .1) (w .2)) (λ u. ⊎-elim (λ w. three (w .0) (w .1) (w .2)) (λ w. none (w .0) (w .1)) u) v) ways
 
   -- No. 1: "m = 0 or m > 64"
-  pub one-exactly : (refusalOf delta gamma x y ≡ 1) ↔ BadProfile x
+  pub one-exactly : (searchRefusal delta gamma x y ≡ 1) ↔ BadProfile x
   one-exactly = (
     λ e. by-way (λ b n. b) (λ a b n. absurd (omega (arith, e, n))) (λ a b n. absurd (omega (arith, e, n))) (λ a n. absurd (omega (arith, e, n))),
     λ b. by-way (λ c n. n) (λ a c n. absurd (a b)) (λ a c n. absurd (spares-profile delta gamma x a b)) (λ a n. absurd (spares-profile delta gamma x (a .asked) b)),
   )
 
   -- No. 2: "delta > 255 or gamma > 16,320", and no lower number applies
-  pub two-exactly : (refusalOf delta gamma x y ≡ 2) ↔ ((BadProfile x → ⊥) × BadTolerance delta gamma)
+  pub two-exactly : (searchRefusal delta gamma x y ≡ 2) ↔ ((BadProfile x → ⊥) × BadTolerance delta gamma)
   two-exactly = (
     λ e. by-way (λ b n. absurd (omega (arith, e, n))) (λ a b n. (a, b)) (λ a b n. absurd (omega (arith, e, n))) (λ a n. absurd (omega (arith, e, n))),
     λ b. by-way (λ c n. absurd (b .0 c)) (λ a c n. n) (λ a c n. absurd (spares-tolerance delta gamma x a (b .1))) (λ a n. absurd (spares-tolerance delta gamma x (a .asked) (b .1))),
   )
 
   -- No. 3: "n > 1,000,000", and no lower number applies
-  pub three-exactly : (refusalOf delta gamma x y ≡ 3) ↔ ((BadProfile x → ⊥) × (BadTolerance delta gamma → ⊥) × BadRecording y)
+  pub three-exactly : (searchRefusal delta gamma x y ≡ 3) ↔ ((BadProfile x → ⊥) × (BadTolerance delta gamma → ⊥) × BadRecording y)
   three-exactly = (
     λ e. by-way (λ b n. absurd (omega (arith, e, n))) (λ a b n. absurd (omega (arith, e, n)))
         (λ a b n. (spares-profile delta gamma x a, spares-tolerance delta gamma x a, b)) (λ a n. absurd (omega (arith, e, n))),
@@ -180,19 +179,19 @@ module _ (delta gamma : ℕ) (x y : List ℕ) where
   )
 
   -- accepted otherwise
-  pub none-exactly : (refusalOf delta gamma x y ≡ 0) ↔ Accepted delta gamma x y
+  pub none-exactly : (searchRefusal delta gamma x y ≡ 0) ↔ Accepted delta gamma x y
   none-exactly = (
     λ e. by-way (λ b n. absurd (omega (arith, e, n))) (λ a b n. absurd (omega (arith, e, n))) (λ a b n. absurd (omega (arith, e, n))) (λ a n. a),
     λ ok. later (ok .asked) ∙ recording-good y (ok .short),
   )
 
   -- "The lowest number that applies is given"
-  pub lowest-given : (BadProfile x → refusalOf delta gamma x y ≤ 1) × (BadTolerance delta gamma → refusalOf delta gamma x y ≤ 2) × (refusalOf delta gamma x y ≤ 3)
+  pub lowest-given : (BadProfile x → searchRefusal delta gamma x y ≤ 1) × (BadTolerance delta gamma → searchRefusal delta gamma x y ≤ 2) × (searchRefusal delta gamma x y ≤ 3)
   lowest-given =
       by-way (λ b n. (λ _. omega (arith, n), λ _. omega (arith, n), omega (arith, n)))
       (λ a b n. (λ c. absurd (a c), λ _. omega (arith, n), omega (arith, n)))
       (λ a b n. (λ c. absurd (spares-profile delta gamma x a c), λ c. absurd (spares-tolerance delta gamma x a c), omega (arith, n)))
       (λ a n. (λ _. omega (arith, n), λ _. omega (arith, n), omega (arith, n)))
 
-  pub accepted : refusalOf delta gamma x y ≡ 0 → Accepted delta gamma x y
+  pub accepted : searchRefusal delta gamma x y ≡ 0 → Accepted delta gamma x y
   accepted = none-exactly .0

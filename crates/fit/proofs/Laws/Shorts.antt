@@ -6,7 +6,7 @@ use native.Mathlib.Omega.{arith}
 use lib.ListN.{length}
 use Rattle.fit.specs.Place.{isPlace, windows}
 use Rattle.fit.specs.Listing.{upTo, places}
-use Rattle.fit.specs.Refusal.{refusalOf, Asked}
+use Rattle.fit.specs.Refusal.{searchRefusal, Asked}
 use Rattle.fit.proofs.Laws.Refusals.{none-exactly}
 
 module _ (delta gamma : ℕ) (x y : List ℕ) where
@@ -19,7 +19,7 @@ module _ (delta gamma : ℕ) (x y : List ℕ) where
   no-places h = ap (upTo (isPlace delta gamma x y)) (no-windows h)
 
   -- and it is not refused, whose profile is not
-  pub short-accepted : Asked delta gamma x → length y < length x → refusalOf delta gamma x y ≡ 0
+  pub short-accepted : Asked delta gamma x → length y < length x → searchRefusal delta gamma x y ≡ 0
   short-accepted ok h = none-exactly delta gamma x y .1 (record { asked = ok; short = omega (arith, ok .few) })
 
 -- an empty recording is shorter than every profile of a point or more

@@ -5,7 +5,9 @@ use lib.ListN.{length}
 use borrow.Author.Needs.{needs}
 use Rattle.fit.specs.Spans.{ruleIn}
 use Rattle.fit.specs.Answer.{soughtBy, lent}
-use Rattle.fit.proofs.Laws.Answers.{refused, begun-none, begun-accepted}
+use Rattle.fit.proofs.Laws.Answers.{refused, begins}
+use Rattle.fit.proofs.Laws.Constructed.{told-d, told-spans}
+use Rattle.fit.proofs.Laws.Openings.{Underway, underway, may-compile}
 use Rattle.fit.proofs.Laws.Compiled.{ready}
 use Rattle.fit.proofs.Laws.Alongs.{Along, along-start, along-same}
 use Rattle.tables.proofs.Laws.Holdings.{usable}
@@ -23,19 +25,31 @@ Inv-loop points delta gamma recording list₀ found₀ m d spans next order jump
 abbrev μ-loop : tie.MeasureT-loop
 μ-loop points delta gamma recording list₀ found₀ m d spans next order jumps full count s₀ list found s = count - s
 
+-- what is known past the refusals
+abbrev Started : tie.Else1 Inv-loop μ-loop → Type 0
+Started c =
+    let a = c .before .before .before .before .before .before .before .args in
+    Underway (a .delta) (a .gamma) (a .points .now) (a .recording .now) (c .before .before .before .checked-search .result) (c .before .before .begin .result)
+
+started : (c : tie.Else1 Inv-loop μ-loop) → Started c
+started c = underway _ _ _ _ (c .before .before .before .checked-search .ensures) (c .before .before .begin .ensures) (c .if1 .left)
+
+checked-search-requires : tie.Need-checked-search-requires Inv-loop μ-loop
+checked-search-requires c κs = search needs
+
 begin-requires : tie.Need-begin-requires Inv-loop μ-loop
 begin-requires c κs = search needs
 
 returns : tie.Need-returns Inv-loop μ-loop
-returns c = refused _ _ _ _ (c .before .before .begin .ensures) (c .if1 .taken)
+returns c = refused _ _ _ _ (begins _ _ _ _ (c .before .before .before .checked-search .ensures) (c .before .before .begin .ensures)) (c .if1 .taken)
 
-smaller-requires : tie.Need-smaller-requires Inv-loop μ-loop
-smaller-requires c κs = search needs
+d-requires : tie.Need-d-requires Inv-loop μ-loop
+d-requires c κs = search needs
 
 spans-of-requires : tie.Need-spans-of-requires Inv-loop μ-loop
 spans-of-requires c κs =
-    let past = c .before in
-    omega (arith, begun-accepted _ _ _ _ (past .before .before .begin .ensures) (past .if1 .left))
+    let at = started (c .before .before) in
+    may-compile _ _ _ (at .ok .asked) (at .carries)
 
 slice-aggregate-next-table : tie.Need-slice-aggregate-next-table Inv-loop μ-loop
 slice-aggregate-next-table c = search needs
@@ -43,21 +57,21 @@ slice-aggregate-next-table c = search needs
 next-table-requires : tie.Need-next-table-requires Inv-loop μ-loop
 next-table-requires c κs =
     let made = c .before in
-    let past = made .before .before in
-    let fit = ready _ _ _ _ _ (made .spans-of .ensures) (begun-accepted _ _ _ _ (past .before .before .begin .ensures) (past .if1 .left)) in
+    let at = started (made .before .before .before) in
+    let fit = ready _ _ _ _ _ (told-spans _ _ _ (at .carries) (made .spans-of .ensures)) (at .ok) in
     (fit .full, fit .few)
 
 compared-of-requires : tie.Need-compared-of-requires Inv-loop μ-loop
 compared-of-requires c κs =
     let small = c .before .before .before in
-    let past = small .before in
-    usable _ _ _ _ (small .smaller .ensures) (begun-accepted _ _ _ _ (past .before .before .begin .ensures) (past .if1 .left) .asked)
+    let at = started (small .before .before) in
+    usable _ _ _ _ (told-d _ _ _ (at .carries) (small .d .ensures)) (at .ok .asked)
 
 full-jump-requires : tie.Need-full-jump-requires Inv-loop μ-loop
 full-jump-requires c κs =
     let small = c .before .before .before .before .before .before in
-    let past = small .before in
-    usable _ _ _ _ (small .smaller .ensures) (begun-accepted _ _ _ _ (past .before .before .begin .ensures) (past .if1 .left) .asked)
+    let at = started (small .before .before) in
+    usable _ _ _ _ (told-d _ _ _ (at .carries) (small .d .ensures)) (at .ok .asked)
 
 count-windows-requires : tie.Need-count-windows-requires Inv-loop μ-loop
 count-windows-requires c κs = search needs
@@ -69,21 +83,21 @@ loop-holds c =
     let nexts = compared .before in
     let made = nexts .before .before in
     let small = made .before in
-    let past = small .before in
-    let begun = past .before .before in
-    let readings = begun .before .before in (
+    let past = small .before .before in
+    let at = started past in
+    let readings = past .before .before .before .before .before in (
       record {
-        ok = begun-accepted _ _ _ _ (begun .begin .ensures) (past .if1 .left);
+        ok = at .ok;
         readings = λ i. omega (arith, readings .shared-slice-known2 .given i);
-        small = small .smaller .ensures;
-        made = made .spans-of .ensures;
+        small = told-d _ _ _ (at .carries) (small .d .ensures);
+        made = told-spans _ _ _ (at .carries) (made .spans-of .ensures);
         nexts = nexts .next-table .ensures;
         orders = compared .compared-of .ensures .0;
         mismatches = compared .compared-of .ensures .1;
         whole = whole .full-jump .ensures;
         counted = c .count-windows .ensures;
       },
-      along-same (walk-start _ _ _) (along-start _ _ _ _ (begun-none _ (begun .begin .ensures) (past .if1 .left))),
+      along-same (walk-start _ _ _) (along-start _ _ _ _ (at .none)),
     )
 
 slice-aggregate-near-points : tie.Need-slice-aggregate-near-points Inv-loop μ-loop
@@ -166,9 +180,10 @@ search-spec =
     (tie.spec
     Inv-loop
     μ-loop
+    checked-search-requires
     begin-requires
     returns
-    smaller-requires
+    d-requires
     spans-of-requires
     slice-aggregate-next-table
     next-table-requires

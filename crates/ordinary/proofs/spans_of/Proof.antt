@@ -3,7 +3,6 @@ use mathlib.Core.Path.{_≡_, _∙_}
 use Prim.Native.Nat.{_≤_, _-_, _*_}
 use native.Mathlib.Omega.{arith}
 use lib.ListN.{length, take, replicate}
-use lib.Seq.{take-length}
 use borrow.Author.Needs.{needs}
 use Rattle.fit.specs.Listing.{overlay}
 use Rattle.fit.specs.Refusal.{maxPoints, maxDelta}
@@ -13,25 +12,31 @@ use Rattle.ordinary.proofs.spans_of.Statement.{statement}
 use Rattle.ordinary.proofs.spans_of.Tie as tie
 
 abbrev Inv-loop : tie.InvT-loop
-Inv-loop points delta d spans₀ i₀ spans i = (i ≤ length points) × (length points ≤ maxPoints) × (delta ≤ maxDelta) × (spans ≡ overlay (spansFor delta (take i points)) (replicate (4 * maxPoints) 0))
+Inv-loop delta points m d spans₀ i₀ spans i = (i ≤ m) × (m ≤ maxPoints) × (delta ≤ maxDelta) × (length points ≡ maxPoints) × (spans ≡ overlay (spansFor delta (take i points)) (replicate (4 * maxPoints) 0))
 
 abbrev μ-loop : tie.MeasureT-loop
-μ-loop points delta d spans₀ i₀ spans i = length points - i
+μ-loop delta points m d spans₀ i₀ spans i = m - i
+
+points-requires : tie.Need-points-requires Inv-loop μ-loop
+points-requires c κs = search needs
+
+m-requires : tie.Need-m-requires Inv-loop μ-loop
+m-requires c κs = search needs
 
 cast-d : tie.Need-cast-d Inv-loop μ-loop
 cast-d c = omega arith
 
 loop-holds : tie.Need-loop-holds Inv-loop μ-loop
-loop-holds c = (omega arith, omega arith, omega arith, spans-none _ (c .before .args .points .now) _)
+loop-holds c = (omega arith, omega arith, omega arith, search needs, spans-none _ (c .before .points .result) _)
 
-shared-slice-read-wide : tie.Need-shared-slice-read-wide Inv-loop μ-loop
-shared-slice-read-wide c = omega arith
+array-read-wide : tie.Need-array-read-wide Inv-loop μ-loop
+array-read-wide c = omega arith
 
 wide-requires : tie.Need-wide-requires Inv-loop μ-loop
 wide-requires c κs = search needs
 
-shared-slice-read-least-near : tie.Need-shared-slice-read-least-near Inv-loop μ-loop
-shared-slice-read-least-near c = omega arith
+array-read-least-near : tie.Need-array-read-least-near Inv-loop μ-loop
+array-read-least-near c = omega arith
 
 least-near-requires : tie.Need-least-near-requires Inv-loop μ-loop
 least-near-requires c κs = search needs
@@ -95,18 +100,19 @@ loop-less c = omega arith
 
 loop-again : tie.Need-loop-again Inv-loop μ-loop
 loop-again c =
-    let at-loop = c .before .before .before .before .before .before in (
+    let at-loop = c .before .before .before .before in (
       omega arith,
       omega arith,
       omega arith,
-      spans-next _ _ _ _ _ _ _ (omega arith) (at-loop .loop .inv .3) (c .before .before .before .wide .ensures .0) (c .wide2 .ensures .0 ∙ c .before .least-near .ensures),
+      at-loop .loop .inv .3,
+      spans-next _ _ _ _ _ _ _ (omega arith) (at-loop .loop .inv .4) (c .before .before .wide .ensures .0) (c .wide2 .ensures .0 ∙ c .before .least-near .ensures),
     )
 
 returns : tie.Need-returns Inv-loop μ-loop
 returns c =
-    let points = c .before .before .before .args .points .now in
-    let e : c .before .loop .i ≡ length points = omega arith in
-    rw (← take-length points, ← e) (c .before .loop .inv .3)
+    let at-m = c .before .before in
+    let e : c .before .loop .i ≡ at-m .m .result = omega arith in
+    rw (← at-m .m .ensures, ← at-m .before .points .ensures, ← e) (c .before .loop .inv .4)
 
 pub spans-of-spec : {M : Type 1} → statement M
 spans-of-spec =
@@ -114,11 +120,13 @@ spans-of-spec =
     (tie.spec
     Inv-loop
     μ-loop
+    points-requires
+    m-requires
     cast-d
     loop-holds
-    shared-slice-read-wide
+    array-read-wide
     wide-requires
-    shared-slice-read-least-near
+    array-read-least-near
     least-near-requires
     wide-requires-2
     mul-spans

@@ -1,8 +1,8 @@
 -- The whole search: what is known where nothing refuses it, and that the sums by the table tell the places. Assumes nothing.
-use mathlib.Core.Path.{_≡_, refl, ap, _∙_}
+use mathlib.Core.Path.{_≡_, refl, ap}
 use mathlib.Core.Bool.{true}
 use mathlib.Core.List.{List}
-use Prim.Native.Nat.{ℕ, suc, _+_, _*_, _^_, _≤_, _<_, min}
+use Prim.Native.Nat.{ℕ, suc, _+_, _*_, _^_, _≤_, _<_}
 use native.Mathlib.Nat.{mul-le-mul, mul-le-mul-right}
 use native.Mathlib.Numerals.{add-one}
 use native.Mathlib.Omega.{arith}
@@ -67,10 +67,10 @@ pub record Open (delta gamma : ℕ) (x y : List ℕ) (d g b : ℕ) : Type 0 wher
   pub b-is : b ≡ lowBits g
   pub narrow : b ≤ 32
 
-pub opened : (delta gamma : ℕ) (x y : List ℕ) (d g b : ℕ) → Accepted delta gamma x y → d ≡ min delta gamma → g ≡ min gamma (length x * d)
+pub opened : (delta gamma : ℕ) (x y : List ℕ) (d g b : ℕ) → Accepted delta gamma x y → d ≡ dOf delta gamma → g ≡ gOf (length x) delta gamma
     → (b ≡ lowBits g) × (b ≤ 32) → Open delta gamma x y d g b
 opened delta gamma x y d g b ok ed eg eb =
-    record { ok = ok; d-is = ed; g-is = eg ∙ ap (λ (n : ℕ). min gamma (length x * n)) ed; b-is = eb .0; narrow = eb .1 }
+    record { ok = ok; d-is = ed; g-is = eg; b-is = eb .0; narrow = eb .1 }
 
 -- the code's products with m fit its numbers
 pub product-le : (m n k : ℕ) → m ≤ maxPoints → n ≤ k → m * n ≤ maxPoints * k

@@ -7,7 +7,7 @@ use native.Mathlib.Omega.{arith}
 use lib.ListN.{length}
 use borrow.Author.Tests.{lt-ltb, le-ltb}
 use Rattle.fit.specs.Place.{windows}
-use Rattle.fit.specs.Refusal.{refusalOf, Accepted}
+use Rattle.fit.specs.Refusal.{searchRefusal, Accepted}
 use Rattle.fit.specs.Answer.{soughtOf, Lent, lent, begun}
 use Rattle.fit.specs.declared.answer.Search.{Search}
 use Rattle.fit.proofs.Laws.Bools.{le-or-lt}
@@ -28,7 +28,7 @@ module _ (delta gamma : ℕ) (x : List ℕ) where
 module _ (delta gamma : ℕ) (x y : List ℕ) where
   -- past 1, 2 and 3 the number is that of the width
   later : Accepted delta gamma x y → packedRefusal delta gamma x y ≡ ofWidth delta gamma x
-  later ok = else-later (refusalOf delta gamma x y) (ofWidth delta gamma x) (none-exactly delta gamma x y .1 ok)
+  later ok = else-later (searchRefusal delta gamma x y) (ofWidth delta gamma x) (none-exactly delta gamma x y .1 ok)
 
   pub packed-accepted : Accepted delta gamma x y → bitsOf delta gamma (length x) ≤ wordBits → packedRefusal delta gamma x y ≡ 0
   packed-accepted ok h = later ok ∙ width-good delta gamma x h
@@ -37,8 +37,8 @@ module _ (delta gamma : ℕ) (x y : List ℕ) where
   packed-fourth ok h = later ok ∙ width-bad delta gamma x h
 
   -- a number of the common table is kept
-  pub packed-first : (refusalOf delta gamma x y ≡ 0 → ⊥) → packedRefusal delta gamma x y ≡ refusalOf delta gamma x y
-  packed-first h = sym (first-given (refusalOf delta gamma x y) (refusalOf delta gamma x y) (ofWidth delta gamma x) refl h)
+  pub packed-first : (searchRefusal delta gamma x y ≡ 0 → ⊥) → packedRefusal delta gamma x y ≡ searchRefusal delta gamma x y
+  packed-first h = sym (first-given (searchRefusal delta gamma x y) (searchRefusal delta gamma x y) (ofWidth delta gamma x) refl h)
 
   -- the three ways of a packed search
   by-way : {A : Type 0} → ((Accepted delta gamma x y → ⊥) → 1 ≤ packedRefusal delta gamma x y → packedRefusal delta gamma x y ≤ 3 → A)
@@ -46,13 +46,13 @@ module _ (delta gamma : ℕ) (x y : List ℕ) where
       → (Accepted delta gamma x y → bitsOf delta gamma (length x) ≤ wordBits → packedRefusal delta gamma x y ≡ 0 → A) → A
   by-way early four none =
       ⊎-elim
-      (λ (l : refusalOf delta gamma x y ≤ 0).
+      (λ (l : searchRefusal delta gamma x y ≤ 0).
       let ok = accepted delta gamma x y (omega arith) in
       ⊎-elim (λ h. none ok h (packed-accepted ok h)) (λ h. four ok h (packed-fourth ok h)) (le-or-lt (bitsOf delta gamma (length x)) wordBits))
-      (λ (l : 0 < refusalOf delta gamma x y).
+      (λ (l : 0 < searchRefusal delta gamma x y).
       let e = packed-first (omega arith) in
       early (λ ok. omega (arith, none-exactly delta gamma x y .1 ok)) (omega (arith, e)) (omega (arith, e, lowest-given delta gamma x y .2)))
-      (le-or-lt (refusalOf delta gamma x y) 0)
+      (le-or-lt (searchRefusal delta gamma x y) 0)
 
   pub packed-small : packedRefusal delta gamma x y ≤ 4
   packed-small = by-way (λ bad some most. omega (arith, most)) (λ ok more e. omega (arith, e)) (λ ok room e. omega (arith, e))
@@ -72,10 +72,10 @@ module _ (delta gamma : ℕ) (x y : List ℕ) where
   )
 
   -- ---- what a refused search answers
-  pub refused-first : (entry : Lent) {r : Search} → r ≡ begun (refusalOf delta gamma x y) → (r .refusal ≡ 0 → ⊥) → PackedAnswers delta gamma x y entry r entry
+  pub refused-first : (entry : Lent) {r : Search} → r ≡ begun (searchRefusal delta gamma x y) → (r .refusal ≡ 0 → ⊥) → PackedAnswers delta gamma x y entry r entry
   refused-first entry e h =
       rw (packed-first (λ z. h (ap (λ (r : Search). r .refusal) e ∙ z)))
-      (refused (refusalOf delta gamma x y) (soughtOf delta gamma x y) (windows (length x) (length y)) entry e h)
+      (refused (searchRefusal delta gamma x y) (soughtOf delta gamma x y) (windows (length x) (length y)) entry e h)
 
   pub refused-fourth : (entry : Lent) {r : Search} → r ≡ begun 0 → Accepted delta gamma x y → wordBits < bitsOf delta gamma (length x)
       → PackedAnswers delta gamma x y entry (record { refusal = 4; total = r .total; tried = r .tried }) entry

@@ -1,55 +1,52 @@
 -- `packed::search` meets its contract: the refusals in their order, and then the scan by the masks and the table that were built.
-use mathlib.Core.Path.{_≡_}
 use Prim.Native.Nat.{_+_}
 use native.Mathlib.Omega.{arith}
 use borrow.Author.Needs.{needs}
-use Rattle.fit.specs.Refusal.{Accepted}
-use Rattle.fit.specs.Answer.{begun}
-use Rattle.fit.proofs.Laws.Answers.{begun-none, begun-accepted}
+use Rattle.fit.proofs.Laws.Answers.{begins}
+use Rattle.fit.proofs.Laws.Constructed.{told-d, told-g}
+use Rattle.fit.proofs.Laws.Openings.{Underway, underway}
 use Rattle.packed.proofs.Laws.Refusing.{refused-first, refused-fourth}
 use Rattle.packed.proofs.Laws.Answering.{Open, opened, product-le, bits-are, may-lay-out, may-add, may-scan, answered}
 use Rattle.packed.proofs.search.Statement.{statement}
 use Rattle.packed.proofs.search.Tie as tie
 
--- ---- what is known past the common table
-none-begun : (c : tie.Else1) → c .before .before .begin .result ≡ begun 0
-none-begun c = begun-none _ (c .before .before .begin .ensures) (c .if1 .left)
+-- what is known past the common table
+abbrev Started : tie.Else1 → Type 0
+Started c =
+    let a = c .before .before .before .before .before .before .before .args in
+    Underway (a .delta) (a .gamma) (a .points .now) (a .recording .now) (c .before .before .before .checked-search .result) (c .before .before .begin .result)
 
-abbrev Ok : tie.Start → Type 0
-Ok s = Accepted (s .args .delta) (s .args .gamma) (s .args .points .now) (s .args .recording .now)
+started : (c : tie.Else1) → Started c
+started c = underway _ _ _ _ (c .before .before .before .checked-search .ensures) (c .before .before .begin .ensures) (c .if1 .left)
 
-ok : (c : tie.Else1) → Ok (c .before .before .before .before .before .before)
-ok c = begun-accepted _ _ _ _ (c .before .before .begin .ensures) (c .if1 .left)
-
--- ---- and once d, g and b are there
+-- and once d, g and b are there
 abbrev Opened : tie.After-low-bits → Type 0
 Opened c =
-    let a = c .before .before .before .before .before .before .before .before .before .args in
-    Open (a .delta) (a .gamma) (a .points .now) (a .recording .now) (c .before .before .smaller .result) (c .before .smaller2 .result) (c .low-bits .result)
+    let a = c .before .before .before .before .before .before .before .before .before .before .before .args in
+    Open (a .delta) (a .gamma) (a .points .now) (a .recording .now) (c .before .before .d .result) (c .before .g .result) (c .low-bits .result)
 
 open-at : (c : tie.After-low-bits) → Opened c
 open-at c =
-    opened _ _ _ _ _ _ _ (ok (c .before .before .before)) (c .before .before .smaller .ensures) (c .before .smaller2 .ensures) (c .low-bits .ensures)
+    let at = started (c .before .before .before .before) in
+    opened _ _ _ _ _ _ _ (at .ok) (told-d _ _ _ (at .carries) (c .before .before .d .ensures)) (told-g _ _ _ _ (at .carries) (c .before .g .ensures)) (c .low-bits .ensures)
+
+checked-search-requires : tie.Need-checked-search-requires
+checked-search-requires c κs = search needs
 
 begin-requires : tie.Need-begin-requires
 begin-requires c κs = search needs
 
 returns : tie.Need-returns
-returns c = refused-first _ _ _ _ _ (c .before .before .begin .ensures) (c .if1 .taken)
+returns c = refused-first _ _ _ _ _ (begins _ _ _ _ (c .before .before .before .checked-search .ensures) (c .before .before .begin .ensures)) (c .if1 .taken)
 
 cast-m : tie.Need-cast-m
-cast-m c = omega (arith, ok c)
+cast-m c = omega (arith, started c .ok)
 
-smaller-requires : tie.Need-smaller-requires
-smaller-requires c κs = search needs
+d-requires : tie.Need-d-requires
+d-requires c κs = search needs
 
-mul-smaller : tie.Need-mul-smaller
-mul-smaller c =
-    let a = ok (c .before) .asked in
-    omega (arith, product-le _ (c .smaller .result) 255 (a .few) (omega (arith, c .smaller .ensures, a .delta-small)))
-
-smaller-requires-2 : tie.Need-smaller-requires-2
-smaller-requires-2 c κs = search needs
+g-requires : tie.Need-g-requires
+g-requires c κs = search needs
 
 low-bits-requires : tie.Need-low-bits-requires
 low-bits-requires c κs = search needs
@@ -63,7 +60,7 @@ mul-if2 c = omega (arith, product-le _ (c .low-bits .result + 1) 33 (open-at c .
 returns-2 : tie.Need-returns-2
 returns-2 c =
     let o = open-at (c .before) in
-    refused-fourth _ _ _ _ _ (none-begun (c .before .before .before .before)) (o .ok) (omega (arith, bits-are _ _ _ _ _ _ _ o, c .if2 .taken))
+    refused-fourth _ _ _ _ _ (started (c .before .before .before .before .before) .none) (o .ok) (omega (arith, bits-are _ _ _ _ _ _ _ o, c .if2 .taken))
 
 cast-lay-out : tie.Need-cast-lay-out
 cast-lay-out c = search needs
@@ -89,7 +86,7 @@ scan-requires c κs =
       laid .lay-out .ensures .sound,
       may-scan _ _ _ _ _ _ _ o (past .if2 .left) _ _ (laid .lay-out .ensures) (built .additions .ensures),
       o .ok .short,
-      none-begun (past .before .before .before .before),
+      started (past .before .before .before .before .before) .none,
     )
 
 same-length : tie.Need-same-length
@@ -101,7 +98,7 @@ returns-3 c =
     let built = scanned .before .before .before in
     let laid = built .before in
     let past = laid .before in
-    let readings = past .before .before .before .before .before .before .before .before in
+    let readings = past .before .before .before .before .before .before .before .before .before .before in
     answered _ _ _ _ _ _ _ (open-at (past .before)) (past .if2 .left) _ _ (laid .lay-out .ensures) (built .additions .ensures)
     (λ j. readings .shared-slice-known2 .given j .fits) (scanned .scan .ensures)
 
@@ -109,12 +106,12 @@ pub search-spec : {M : Type 1} → statement M
 search-spec =
     tie.close
     (tie.spec
+    checked-search-requires
     begin-requires
     returns
     cast-m
-    smaller-requires
-    mul-smaller
-    smaller-requires-2
+    d-requires
+    g-requires
     low-bits-requires
     add-if2
     mul-if2

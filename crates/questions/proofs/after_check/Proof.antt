@@ -1,46 +1,44 @@
 -- `after_check` meets its contract: refused, or the jump by the smaller tolerance. Assumes nothing.
 use mathlib.Core.Path.{ap, _∙_}
+use Rattle.fit.proofs.Laws.Constructed.{told-d}
 use Rattle.jumps.specs.Jumps.{afterJump}
-use Rattle.tables.proofs.Laws.Holdings.{usable}
-use Rattle.questions.proofs.Laws.Askings.{refused, granted, past}
+use Rattle.questions.proofs.Laws.Replies.{question-refused, question-granted, question-usable}
 use borrow.Author.Needs.{needs}
 use Rattle.questions.proofs.after_check.Statement.{statement}
 use Rattle.questions.proofs.after_check.Tie as tie
 
-asked-requires : tie.Need-asked-requires
-asked-requires c κs = search needs
+checked-question-requires : tie.Need-checked-question-requires
+checked-question-requires c κs = search needs
 
-answer-requires : tie.Need-answer-requires
-answer-requires c κs = search needs
+refused-requires : tie.Need-refused-requires
+refused-requires c κs = search needs
 
 returns : tie.Need-returns
-returns c = refused _ _ _ (c .before .before .asked .ensures) (c .before .if1 .taken) (c .answer .ensures)
+returns c = question-refused _ _ _ (c .before .before .before .checked-question .ensures) _ (c .before .if1 .taken) (c .refused .ensures)
 
-smaller-requires : tie.Need-smaller-requires
-smaller-requires c κs = search needs
+d-requires : tie.Need-d-requires
+d-requires c κs = search needs
 
 after-jump-requires : tie.Need-after-jump-requires
-after-jump-requires c κs = usable _ _ _ _ (c .smaller .ensures) (past _ _ _ _ (c .before .before .asked .ensures) (c .before .if1 .left))
-
-answer-requires-2 : tie.Need-answer-requires-2
-answer-requires-2 c κs = search needs
+after-jump-requires c κs =
+    let past = c .before .before in
+    question-usable _ _ _ (past .before .before .checked-question .ensures) (past .if1 .left) _ (c .d .ensures)
 
 returns-2 : tie.Need-returns-2
 returns-2 c =
-    let jumped = c .before in
-    let past-it = jumped .before .before in
-    let a = past-it .before .before .before .args in
-    granted _ _ _ _ (past-it .before .asked .ensures) (past-it .if1 .left)
-    (jumped .after-jump .ensures ∙ ap (λ d. afterJump d (a .points .now)) (jumped .before .smaller .ensures)) (c .answer2 .ensures)
+    let told = c .before in
+    let past = told .before .before in
+    let a = past .before .before .before .before .args in
+    question-granted _ _ _ (past .before .before .checked-question .ensures) (past .if1 .left) _ _ (λ p.
+    c .after-jump .ensures ∙ ap (λ d. afterJump d (a .points .now)) (told-d _ _ _ (p .carries) (told .d .ensures)))
 
 pub after-check-spec : {M : Type 1} → statement M
 after-check-spec =
     tie.close
     (tie.spec
-    asked-requires
-    answer-requires
+    checked-question-requires
+    refused-requires
     returns
-    smaller-requires
+    d-requires
     after-jump-requires
-    answer-requires-2
     returns-2)

@@ -6,7 +6,7 @@ use mathlib.Core.List.{List, [], _++_, List·Memᴰ·not-nil}
 use native.Mathlib.Omega.{arith}
 use lib.ListN.{length, take, length-append}
 use Rattle.fit.specs.Place.{fitOf, dOf, windows}
-use Rattle.fit.specs.Refusal.{refusalOf, Accepted}
+use Rattle.fit.specs.Refusal.{searchRefusal, Accepted}
 use Rattle.fit.specs.Listing.{places}
 use Rattle.fit.specs.Answer.{Sought, soughtOf, all, outcome}
 use Rattle.fit.proofs.Laws.Places.{in-places}
@@ -49,9 +49,9 @@ module _ (delta gamma : ℕ) (x y : List ℕ) (short : length y ≤ maxInput) wh
 
   -- the line of a searcher that the common table refuses or accepts
   common-short : (name : List ℕ) (tried : ℕ) → (Accepted delta gamma x y → tried ≤ 999999)
-      → length (lineOf name (outcome (refusalOf delta gamma x y) sought tried)) ≤ length name + 16
+      → length (lineOf name (outcome (searchRefusal delta gamma x y) sought tried)) ≤ length name + 16
   common-short name tried small =
-      outcome-short name (refusalOf delta gamma x y) sought tried (omega (arith, lowest-given delta gamma x y .2))
+      outcome-short name (searchRefusal delta gamma x y) sought tried (omega (arith, lowest-given delta gamma x y .2))
       (λ none. let ok = none-exactly delta gamma x y .0 none in (omega (arith, few-sought ok), small ok))
 
   plain-short : length (plainLine delta gamma x y) ≤ 21
@@ -89,10 +89,10 @@ module _ (delta gamma : ℕ) (x y : List ℕ) (short : length y ≤ maxInput) wh
       let skip = skipLine delta gamma x y in
       let maximal = maximalLine delta gamma x y in
       let plain = plainLine delta gamma x y in
-      let found = linesOf (foundBy (refusalOf delta gamma x y) (places delta gamma x y)) in
+      let found = linesOf (foundBy (searchRefusal delta gamma x y) (places delta gamma x y)) in
       let others = otherLines delta gamma x y in
       omega
-      (arith, plain-short, packed-line-short, last-line-short, skip-line-short, maximal-line-short, found-short (refusalOf delta gamma x y) (none-exactly delta gamma x y .0), length-append (plain ++ others) found, length-append plain others, length-append (packed ++ last ++ skip) maximal, length-append (packed ++ last) skip, length-append packed last)
+      (arith, plain-short, packed-line-short, last-line-short, skip-line-short, maximal-line-short, found-short (searchRefusal delta gamma x y) (none-exactly delta gamma x y .0), length-append (plain ++ others) found, length-append plain others, length-append (packed ++ last ++ skip) maximal, length-append (packed ++ last) skip, length-append packed last)
 
 -- ---- the whole report
 pub report-short : (input : List ℕ) → length (reportOf input) ≤ pageLength

@@ -6,7 +6,7 @@ use native.Mathlib.Omega.{arith}
 use lib.ListN.{length, take, drop}
 use lib.Seq.{take-all, take-at}
 use Rattle.fit.specs.Listing.{places, overlay}
-use Rattle.fit.specs.Refusal.{refusalOf}
+use Rattle.fit.specs.Refusal.{searchRefusal}
 use Rattle.fit.specs.Answer.{lent, Answers}
 use Rattle.fit.specs.declared.answer.Search.{Search}
 use Rattle.fit.proofs.Laws.Listings.{overlay-is, length-overlay}
@@ -34,11 +34,11 @@ overlay-held ps entry room = rw (overlay-is ps entry, take-all (length entry) ps
 -- plain's answer, with a list as long as the recording
 module _ (delta gamma : ℕ) (x y : List ℕ) (tried : ℕ) (entry final : List ℕ) (r : Search) where
   pub places-held : Answers delta gamma x y tried (lent entry) r (lent final) → length y ≤ length entry
-      → (r .total ≤ length final) × (take (r .total) final ≡ foundBy (refusalOf delta gamma x y) (places delta gamma x y))
+      → (r .total ≤ length final) × (take (r .total) final ≡ foundBy (searchRefusal delta gamma x y) (places delta gamma x y))
   unfolding foundBy
-  places-held a room = by-number (refusalOf delta gamma x y) refl
+  places-held a room = by-number (searchRefusal delta gamma x y) refl
     where
-      by-number : (num : ℕ) → refusalOf delta gamma x y ≡ num → (r .total ≤ length final) × (take (r .total) final ≡ foundBy num (places delta gamma x y))
+      by-number : (num : ℕ) → searchRefusal delta gamma x y ≡ num → (r .total ≤ length final) × (take (r .total) final ≡ foundBy num (places delta gamma x y))
       by-number zero e =
           let ok = none-exactly delta gamma x y .0 e in
           let said = answer-accepted delta gamma x y tried entry final r a ok in

@@ -1,22 +1,28 @@
 -- `skip::search` meets its contract: refused as it begins, or as the search over spans answers. Assumes nothing.
 use mathlib.Core.Path.{ap}
-use native.Mathlib.Omega.{arith}
 use lib.ListN.{length}
-use Rattle.fit.proofs.Laws.Answers.{refused, begun-none, begun-accepted}
+use Rattle.fit.proofs.Laws.Answers.{refused, begins}
+use Rattle.fit.proofs.Laws.Constructed.{told-spans}
+use Rattle.fit.proofs.Laws.Openings.{underway, may-compile}
 use Rattle.fit.proofs.Laws.Compiled.{ready, compiled-near, compiled-answer}
 use Rattle.skip.proofs.Laws.Walks.{same-walk}
 use borrow.Author.Needs.{needs}
 use Rattle.skip.proofs.search.Statement.{statement}
 use Rattle.skip.proofs.search.Tie as tie
 
+checked-search-requires : tie.Need-checked-search-requires
+checked-search-requires c κs = search needs
+
 begin-requires : tie.Need-begin-requires
 begin-requires c κs = search needs
 
 returns : tie.Need-returns
-returns c = refused _ _ _ _ (c .before .before .begin .ensures) (c .if1 .taken)
+returns c = refused _ _ _ _ (begins _ _ _ _ (c .before .before .before .checked-search .ensures) (c .before .before .begin .ensures)) (c .if1 .taken)
 
 spans-of-requires : tie.Need-spans-of-requires
-spans-of-requires c κs = omega (arith, begun-accepted _ _ _ _ (c .before .before .begin .ensures) (c .if1 .left))
+spans-of-requires c κs =
+    let known = underway _ _ _ _ (c .before .before .before .checked-search .ensures) (c .before .before .begin .ensures) (c .if1 .left) in
+    may-compile _ _ _ (known .ok .asked) (known .carries)
 
 slice-aggregate-over-spans : tie.Need-slice-aggregate-over-spans
 slice-aggregate-over-spans c = search needs
@@ -25,8 +31,8 @@ over-spans-requires : tie.Need-over-spans-requires
 over-spans-requires c κs =
     let made = c .before .before in
     let past = made .before in
-    let begun = past .before .before .begin .ensures in
-    (ready _ _ _ _ _ (made .spans-of .ensures) (begun-accepted _ _ _ _ begun (past .if1 .left)), begun-none _ begun (past .if1 .left))
+    let known = underway _ _ _ _ (past .before .before .before .checked-search .ensures) (past .before .before .begin .ensures) (past .if1 .left) in
+    (ready _ _ _ _ _ (told-spans _ _ _ (known .carries) (made .spans-of .ensures)) (known .ok), known .none)
 
 same-length : tie.Need-same-length
 same-length c = search needs
@@ -36,14 +42,15 @@ returns-2 c =
     let done = c .before .before in
     let made = done .before .before .before in
     let past = made .before in
-    let spans = made .spans-of .ensures in
-    let ok = begun-accepted _ _ _ _ (past .before .before .begin .ensures) (past .if1 .left) in
-    compiled-answer _ _ _ _ _ spans ok _ _ (ap length (same-walk _ _ _ (compiled-near _ _ _ _ spans (ok .asked .few)) _)) (done .over-spans .ensures)
+    let known = underway _ _ _ _ (past .before .before .before .checked-search .ensures) (past .before .before .begin .ensures) (past .if1 .left) in
+    let spans = told-spans _ _ _ (known .carries) (made .spans-of .ensures) in
+    compiled-answer _ _ _ _ _ spans (known .ok) _ _ (ap length (same-walk _ _ _ (compiled-near _ _ _ _ spans (known .ok .asked .few)) _)) (done .over-spans .ensures)
 
 pub search-spec : {M : Type 1} → statement M
 search-spec =
     tie.close
     (tie.spec
+    checked-search-requires
     begin-requires
     returns
     spans-of-requires

@@ -17,16 +17,16 @@ abbrev μ-loop : tie.MeasureT-loop
 loop-holds : tie.Need-loop-holds Inv-loop μ-loop
 loop-holds c = led-none _ _ _
 
-shared-slice-read-size : tie.Need-shared-slice-read-size Inv-loop μ-loop
-shared-slice-read-size c = omega arith
+shared-slice-read-index : tie.Need-shared-slice-read-index Inv-loop μ-loop
+shared-slice-read-index c = omega arith
 
-size-requires : tie.Need-size-requires Inv-loop μ-loop
-size-requires c κs = tt
+index-requires : tie.Need-index-requires Inv-loop μ-loop
+index-requires c κs = tt
 
 agrees-requires : tie.Need-agrees-requires Inv-loop μ-loop
 agrees-requires c κs =
     let pre = c .before .before .before .before .before .before .pre in
-    let at = c .size .ensures ∙ pre .1 .at _ (omega arith) in
+    let at = c .index .ensures .0 ∙ pre .1 .at _ (omega arith) in
     (pre .0, rw at (order-point _ _ _ (omega arith)))
 
 add-j : tie.Need-add-j Inv-loop μ-loop
@@ -38,13 +38,13 @@ loop-less c = omega arith
 loop-again : tie.Need-loop-again Inv-loop μ-loop
 loop-again c =
     let pre = c .before .before .before .before .before .before .before .before .pre in
-    let at = c .before .before .size .ensures ∙ pre .1 .at _ (omega arith) in
+    let at = c .before .before .index .ensures .0 ∙ pre .1 .at _ (omega arith) in
     led-more _ _ _ (c .before .before .before .before .before .loop .inv) (sym (rw at at (c .before .agrees .ensures)) ∙ c .if1 .taken) (omega arith)
 
 returns : tie.Need-returns Inv-loop μ-loop
 returns c =
     let pre = c .before .before .before .before .before .before .before .before .pre in
-    let at = c .before .before .size .ensures ∙ pre .1 .at _ (omega arith) in
+    let at = c .before .before .index .ensures .0 ∙ pre .1 .at _ (omega arith) in
     (led-stop _ _ _ (c .before .before .before .before .before .loop .inv) (sym (rw at at (c .before .agrees .ensures)) ∙ c .if1 .left), omega arith)
 
 returns-2 : tie.Need-returns-2 Inv-loop μ-loop
@@ -57,8 +57,8 @@ count-agreeing-spec =
     Inv-loop
     μ-loop
     loop-holds
-    shared-slice-read-size
-    size-requires
+    shared-slice-read-index
+    index-requires
     agrees-requires
     add-j
     loop-less

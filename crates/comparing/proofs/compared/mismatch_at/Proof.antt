@@ -6,11 +6,11 @@ use borrow.Author.Needs.{needs}
 use Rattle.comparing.proofs.compared.mismatch_at.Statement.{statement}
 use Rattle.comparing.proofs.compared.mismatch_at.Tie as tie
 
-shared-slice-read-size : tie.Need-shared-slice-read-size
-shared-slice-read-size c = search needs
+shared-slice-read-index : tie.Need-shared-slice-read-index
+shared-slice-read-index c = search needs
 
-size-requires : tie.Need-size-requires
-size-requires c κs = search needs
+index-requires : tie.Need-index-requires
+index-requires c κs = search needs
 
 lone-at-requires : tie.Need-lone-at-requires
 lone-at-requires c κs =
@@ -20,15 +20,15 @@ lone-at-requires c κs =
 returns : tie.Need-returns
 returns c =
     let pre = c .before .before .before .before .before .before .pre in
-    let agreed = c .before .before .size .ensures ∙ pre .2 .at _ (pre .3) in
+    let agreed = c .before .before .index .ensures .0 ∙ pre .2 .at _ (pre .3) in
     c .lone-at .ensures ∙ sym (agreeing-mismatch _ _ _ _ _ (pre .1 .inside) (pre .1 .point) (omega (arith, agreed, c .before .if1 .taken)))
 
 returns-2 : tie.Need-returns-2
 returns-2 c =
     let pre = c .before .before .before .before .before .pre in
-    let agreed = c .before .size .ensures ∙ pre .2 .at _ (pre .3) in
+    let agreed = c .before .index .ensures .0 ∙ pre .2 .at _ (pre .3) in
     sym (no-mismatch _ _ _ _ _ (pre .1 .inside) (pre .1 .point) (omega (arith, agreed, c .if1 .left)))
 
 pub mismatch-at-spec : {M : Type 1} → statement M
 mismatch-at-spec =
-    tie.close (tie.spec shared-slice-read-size size-requires lone-at-requires returns returns-2)
+    tie.close (tie.spec shared-slice-read-index index-requires lone-at-requires returns returns-2)

@@ -20,16 +20,16 @@ abbrev μ-loop : tie.MeasureT-loop
 loop-holds : tie.Need-loop-holds Inv-loop μ-loop
 loop-holds c = filling-none _ _ _ maxPoints
 
-shared-slice-read-size : tie.Need-shared-slice-read-size Inv-loop μ-loop
-shared-slice-read-size c = omega arith
+shared-slice-read-index : tie.Need-shared-slice-read-index Inv-loop μ-loop
+shared-slice-read-index c = omega arith
 
-size-requires : tie.Need-size-requires Inv-loop μ-loop
-size-requires c κs = tt
+index-requires : tie.Need-index-requires Inv-loop μ-loop
+index-requires c κs = tt
 
 mismatch-jump-requires : tie.Need-mismatch-jump-requires Inv-loop μ-loop
 mismatch-jump-requires c κs =
     let pre = c .before .before .before .before .before .before .before .pre in
-    (pre .0, record { inside = omega arith; point = c .size .ensures ∙ pre .1 .at _ (omega arith) }, pre .2)
+    (pre .0, record { inside = omega arith; point = c .index .ensures .0 ∙ pre .1 .at _ (omega arith) }, pre .2)
 
 cast-table : tie.Need-cast-table Inv-loop μ-loop
 cast-table c = omega (arith, c .mismatch-jump .ensures .1)
@@ -38,7 +38,7 @@ array-write-table : tie.Need-array-write-table Inv-loop μ-loop
 array-write-table c =
     let sized = c .before in
     let start = sized .before .before .before .before .before .before .before in
-    let at = sized .size .ensures ∙ start .pre .1 .at _ (omega arith) in
+    let at = sized .index .ensures .0 ∙ start .pre .1 .at _ (omega arith) in
     omega (arith, at, order-point (start .args .d) (start .args .points .now) (sized .before .before .before .loop .j) (omega arith))
 
 add-j : tie.Need-add-j Inv-loop μ-loop
@@ -51,7 +51,7 @@ loop-again : tie.Need-loop-again Inv-loop μ-loop
 loop-again c =
     let sized = c .before in
     let pre = sized .before .before .before .before .before .before .before .pre in
-    let at = sized .size .ensures ∙ pre .1 .at _ (omega arith) in
+    let at = sized .index .ensures .0 ∙ pre .1 .at _ (omega arith) in
     filling-more _ _ _ maxPoints _ _ _ (sized .before .before .before .loop .inv) (omega arith) at (rw at (order-point _ _ _ (omega arith))) (omega arith)
     (c .mismatch-jump .ensures .0)
 
@@ -67,8 +67,8 @@ mismatch-table-spec =
     Inv-loop
     μ-loop
     loop-holds
-    shared-slice-read-size
-    size-requires
+    shared-slice-read-index
+    index-requires
     mismatch-jump-requires
     cast-table
     array-write-table

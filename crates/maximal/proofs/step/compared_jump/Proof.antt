@@ -5,25 +5,25 @@ use borrow.Author.Needs.{needs}
 use Rattle.maximal.proofs.step.compared_jump.Statement.{statement}
 use Rattle.maximal.proofs.step.compared_jump.Tie as tie
 
-shared-slice-read-wide : tie.Need-shared-slice-read-wide
-shared-slice-read-wide c = search needs
+shared-slice-read-index : tie.Need-shared-slice-read-index
+shared-slice-read-index c = search needs
 
-wide-requires : tie.Need-wide-requires
-wide-requires c κs = search needs
+index-requires : tie.Need-index-requires
+index-requires c κs = search needs
 
-shared-slice-read-wide-2 : tie.Need-shared-slice-read-wide-2
-shared-slice-read-wide-2 c =
+shared-slice-read-index-2 : tie.Need-shared-slice-read-index-2
+shared-slice-read-index-2 c =
     let then = c .before .before .before in
-    omega (arith, c .before .wide .ensures .0, then .before .before .before .pre .1 (then .if1 .taken))
+    omega (arith, c .before .index .ensures .0, then .before .before .before .pre .1 (then .if1 .taken))
 
-wide-requires-2 : tie.Need-wide-requires-2
-wide-requires-2 c κs = search needs
+index-requires-2 : tie.Need-index-requires-2
+index-requires-2 c κs = search needs
 
 returns : tie.Need-returns
 returns c =
     let read = c .before .before in
     let then = read .before .before in
-    rw (lt-ltb _ _ (then .if1 .taken), ← read .wide .ensures .0) (c .wide2 .ensures .0)
+    rw (lt-ltb _ _ (then .if1 .taken), ← read .index .ensures .0) (c .index2 .ensures .0)
 
 returns-2 : tie.Need-returns-2
 returns-2 c = rw (le-ltb _ _ (c .if1 .left))
@@ -32,9 +32,9 @@ pub compared-jump-spec : {M : Type 1} → statement M
 compared-jump-spec =
     tie.close
     (tie.spec
-    shared-slice-read-wide
-    wide-requires
-    shared-slice-read-wide-2
-    wide-requires-2
+    shared-slice-read-index
+    index-requires
+    shared-slice-read-index-2
+    index-requires-2
     returns
     returns-2)

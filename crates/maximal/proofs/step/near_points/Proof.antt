@@ -21,16 +21,16 @@ loop-holds c =
     let known = c .before .before .before .pre in
     (known .0, known .2, led-none _ _ _)
 
-shared-slice-read-wide : tie.Need-shared-slice-read-wide Inv-loop μ-loop
-shared-slice-read-wide c = omega arith
+shared-slice-read-index : tie.Need-shared-slice-read-index Inv-loop μ-loop
+shared-slice-read-index c = omega arith
 
-wide-requires : tie.Need-wide-requires Inv-loop μ-loop
-wide-requires c κs = omega arith
+index-requires : tie.Need-index-requires Inv-loop μ-loop
+index-requires c κs = omega arith
 
 shared-slice-read-is-near : tie.Need-shared-slice-read-is-near Inv-loop μ-loop
 shared-slice-read-is-near c =
     let inv = c .before .before .before .before .loop .inv in
-    compared-in _ _ _ _ _ (inv .0) (omega arith) (c .before .wide .ensures .0)
+    compared-in _ _ _ _ _ (inv .0) (omega arith) (c .before .index .ensures .0)
 
 add-is-near : tie.Need-add-is-near Inv-loop μ-loop
 add-is-near c = omega arith
@@ -38,7 +38,7 @@ add-is-near c = omega arith
 shared-slice-read-is-near-2 : tie.Need-shared-slice-read-is-near-2 Inv-loop μ-loop
 shared-slice-read-is-near-2 c =
     let inv = c .before .before .before .before .before .loop .inv in
-    omega (arith, compared-in _ _ _ _ _ (inv .0) (omega arith) (c .before .before .wide .ensures .0))
+    omega (arith, compared-in _ _ _ _ _ (inv .0) (omega arith) (c .before .before .index .ensures .0))
 
 is-near-requires : tie.Need-is-near-requires Inv-loop μ-loop
 is-near-requires c κs = omega arith
@@ -54,7 +54,7 @@ loop-again c =
     let seen = c .before in
     let read = seen .before .before .before in
     let inv = read .before .before .before .loop .inv in
-    let at = compared-at _ _ _ _ _ (inv .0) (omega arith) (read .wide .ensures .0) in
+    let at = compared-at _ _ _ _ _ (inv .0) (omega arith) (read .index .ensures .0) in
     (inv .0, inv .1, led-more _ _ _ (inv .2) (sym (rw at at (seen .is-near .ensures)) ∙ c .if1 .taken) (omega arith))
 
 returns : tie.Need-returns Inv-loop μ-loop
@@ -62,7 +62,7 @@ returns c =
     let seen = c .before in
     let read = seen .before .before .before in
     let inv = read .before .before .before .loop .inv in
-    let at = compared-at _ _ _ _ _ (inv .0) (omega arith) (read .wide .ensures .0) in
+    let at = compared-at _ _ _ _ _ (inv .0) (omega arith) (read .index .ensures .0) in
     (led-stop _ _ _ (inv .2) (sym (rw at at (seen .is-near .ensures)) ∙ c .if1 .left), omega arith)
 
 returns-2 : tie.Need-returns-2 Inv-loop μ-loop
@@ -75,8 +75,8 @@ near-points-spec =
     Inv-loop
     μ-loop
     loop-holds
-    shared-slice-read-wide
-    wide-requires
+    shared-slice-read-index
+    index-requires
     shared-slice-read-is-near
     add-is-near
     shared-slice-read-is-near-2

@@ -1,0 +1,40 @@
+-- What a question and a search know once their input is checked and not refused. Assumes nothing.
+use mathlib.Core.Path.{_≡_, sym, ap, _∙_}
+use mathlib.Core.List.{List}
+use Prim.Native.Nat.{ℕ, _≤_}
+use native.Mathlib.Omega.{arith}
+use Rattle.fit.specs.Refusal.{maxPoints, maxDelta, Asked, Accepted}
+use Rattle.fit.specs.Answer.{begun}
+use Rattle.fit.specs.Made.{questionChecked, searchChecked}
+use Rattle.fit.specs.declared.limits.Checked.{Checked}
+use Rattle.fit.specs.declared.answer.Search.{Search}
+use Rattle.fit.proofs.Laws.Refusals.{asked-accepted}
+use Rattle.fit.proofs.Laws.Constructed.{Carries, question-carries, search-carries}
+use Rattle.fit.proofs.Laws.Answers.{begins, begun-none, begun-accepted}
+
+-- a question
+pub record Posed (delta gamma : ℕ) (x : List ℕ) (q : Checked) : Type 0 where
+  pub ok : Asked delta gamma x
+  pub carries : Carries delta gamma x q
+
+pub posed : (delta gamma : ℕ) (x : List ℕ) {q : Checked} → q ≡ questionChecked delta gamma x → q .refusal ≡ 0 → Posed delta gamma x q
+posed delta gamma x e z =
+    let ok = asked-accepted delta gamma x (sym (ap (λ (q : Checked). q .refusal) e) ∙ z) in
+    record { ok = ok; carries = question-carries delta gamma x e ok }
+
+-- a search, which has begun
+pub record Underway (delta gamma : ℕ) (x y : List ℕ) (q : Checked) (r : Search) : Type 0 where
+  pub ok : Accepted delta gamma x y
+  pub carries : Carries delta gamma x q
+  pub none : r ≡ begun 0
+
+pub underway : (delta gamma : ℕ) (x y : List ℕ) {q : Checked} {r : Search} → q ≡ searchChecked delta gamma x y → r ≡ begun (q .refusal) → r .refusal ≡ 0
+    → Underway delta gamma x y q r
+underway delta gamma x y e b z =
+    let started = begins delta gamma x y e b in
+    let ok = begun-accepted delta gamma x y started z in
+    record { ok = ok; carries = search-carries delta gamma x y e (ok .asked); none = begun-none _ started z }
+
+-- the profile of either may be compiled
+pub may-compile : (delta gamma : ℕ) (x : List ℕ) {q : Checked} → Asked delta gamma x → Carries delta gamma x q → (q .profile .m ≤ maxPoints) × (delta ≤ maxDelta)
+may-compile delta gamma x ok c = (omega (arith, c .m, ok .few), ok .delta-small)

@@ -1,0 +1,10 @@
+-- `fit::limits::Profile::points` meets its contract. Assumes nothing.
+use mathlib.Core.Path.{refl}
+use Rattle.fit.proofs.limits.Profile.points.Statement.{statement}
+use Rattle.fit.proofs.limits.Profile.points.Tie as tie
+
+returns : tie.Need-returns
+returns c = refl
+
+pub points-spec : {M : Type 1} → statement M
+points-spec = tie.close (tie.spec returns)

@@ -1,0 +1,62 @@
+-- What a question answers of its checked input: refused by its number, or the jump that its rule has. One law each, for every question.
+-- Assumes nothing.
+use Prim.Native.Nat.{ℕ, _*_, _≤_}
+use mathlib.Core.Path.{_≡_, sym, ap, ap₂, _∙_}
+use mathlib.Core.List.{List}
+use lib.ListN.{length}
+use Rattle.fit.specs.Place.{dOf}
+use Rattle.fit.specs.Spans.{spansOf}
+use Rattle.fit.specs.Refusal.{orElse, maxPoints, questionRefusal}
+use Rattle.fit.specs.Made.{pointsOf, questionChecked}
+use Rattle.fit.specs.declared.limits.Checked.{Checked}
+use Rattle.fit.proofs.Laws.Constructed.{Carries, question-carries, told-d, told-spans}
+use Rattle.fit.proofs.Laws.Openings.{Posed, posed}
+use Rattle.fit.proofs.Laws.Compiled.{compiled-long}
+use Rattle.tables.specs.Holding.{Usable}
+use Rattle.tables.proofs.Laws.Holdings.{usable}
+use Rattle.questions.specs.declared.Jump.{Jump}
+use Rattle.questions.specs.Asking.{jumpAnswer, ofPoint, mismatchRefusal}
+use Rattle.questions.proofs.Laws.Askings.{refused-is, granted-is, MismatchAsked, mismatch-past}
+
+-- by the number that the code has, which is the number of the refusal
+pub refused : (num number k : ℕ) {r : Jump} → number ≡ num → (number ≡ 0 → ⊥) → r ≡ record { refusal = number; jump = 0 } → r ≡ jumpAnswer num k
+refused num number k e h q = q ∙ refused-is number k h ∙ ap (λ (n : ℕ). jumpAnswer n k) e
+
+pub granted : (num number j k : ℕ) → number ≡ num → number ≡ 0 → j ≡ k → _≡_ {A = Jump} (record { refusal = 0; jump = j }) (jumpAnswer num k)
+granted num number j k e z q =
+    ap (λ (i : ℕ). record { refusal = 0; jump = i }) q ∙ ap (λ (n : ℕ). record { refusal = n; jump = k }) (sym z) ∙ granted-is number k z
+    ∙ ap (λ (n : ℕ). jumpAnswer n k) e
+
+module _ (delta gamma : ℕ) (x : List ℕ) {q : Checked} (e : q ≡ questionChecked delta gamma x) where
+  number-is : q .refusal ≡ questionRefusal delta gamma x
+  number-is = ap (λ (c : Checked). c .refusal) e
+
+  pub question-refused : (k : ℕ) {r : Jump} → (q .refusal ≡ 0 → ⊥) → r ≡ record { refusal = q .refusal; jump = 0 } → r ≡ jumpAnswer (questionRefusal delta gamma x) k
+  question-refused k h a = refused _ _ k number-is h a
+
+  pub mismatch-number : (p num late : ℕ) → late ≡ ofPoint (length x) p → num ≡ orElse (q .refusal) late → num ≡ mismatchRefusal delta gamma x p
+  mismatch-number p num late l n = n ∙ ap₂ orElse number-is l
+
+  -- not refused, it has what its rule needs
+  module _ (z : q .refusal ≡ 0) where
+    pub question-granted : (j k : ℕ) → (Posed delta gamma x q → j ≡ k) → _≡_ {A = Jump} (record { refusal = 0; jump = j }) (jumpAnswer (questionRefusal delta gamma x) k)
+    question-granted j k f = granted _ _ j k number-is z (f (posed delta gamma x e z))
+
+    pub question-usable : (d : ℕ) → d ≡ dOf (q .tolerance .delta) (q .tolerance .gamma) → Usable d x
+    question-usable d t = let p = posed delta gamma x e z in usable delta gamma x d (told-d delta gamma x (p .carries) t) (p .ok)
+
+    pub question-compiled : (spans : List ℕ) → spans ≡ spansOf delta (pointsOf (q .profile)) → (4 * length x ≤ length spans) × (length x ≤ maxPoints)
+    question-compiled spans s =
+        let p = posed delta gamma x e z in
+        (compiled-long delta x spans (told-spans delta gamma x (p .carries) s) (p .ok .few), p .ok .few)
+
+-- what the mismatch question knows past its refusals
+pub record MismatchPosed (delta gamma : ℕ) (x : List ℕ) (p : ℕ) (q : Checked) : Type 0 where
+  pub ok : MismatchAsked delta gamma x p
+  pub carries : Carries delta gamma x q
+
+pub mismatch-posed : (delta gamma : ℕ) (x : List ℕ) {q : Checked} → q ≡ questionChecked delta gamma x → (p num : ℕ) → num ≡ mismatchRefusal delta gamma x p
+    → num ≡ 0 → MismatchPosed delta gamma x p q
+mismatch-posed delta gamma x e p num n z =
+    let ok = mismatch-past delta gamma x p num n z in
+    record { ok = ok; carries = question-carries delta gamma x e (ok .asked) }
