@@ -1,6 +1,6 @@
 /* read and write as a program sees them under many signals: they are interrupted READS or WRITES times before a byte is moved, and then 5
-   bytes are moved at most. Loaded before the program's C library. Programs are made for x86-64, so this is too, on every machine, and it
-   can have no headers. */
+   bytes are moved at most; where LATER is 0, the first call of each alone is interrupted. Loaded before the program's C library. Programs
+   are made for x86-64, so this is too, on every machine, and it can have no headers. */
 enum { EINTR = 4, READ = 0, WRITE = 1, PART = 5 };
 
 extern int *__errno_location(void);
@@ -12,7 +12,7 @@ static long call(long number, int fd, const void *bytes, unsigned long n, long *
         *__errno_location() = EINTR;
         return -1;
     }
-    *left = times;
+    *left = LATER ? times : 0;
     return syscall(number, (long)fd, bytes, n < PART ? n : PART);
 }
 

@@ -37,7 +37,7 @@ pub(crate) fn read_all(fd: i32, buf: &mut [u8]) -> Got
     }
 }
 
-// Writes all of buf and answers true, or stops where a write takes nothing or fails, of which errno then tells, and answers false.
+// Writes all of buf and answers true; or stops where a write takes nothing, or fails, of which errno then tells, and answers false.
 pub(crate) fn write_all(fd: i32, buf: &[u8]) -> bool {
     let mut done = 0;
     while done < buf.len() {

@@ -21,8 +21,13 @@ fn main() {
 }
 
 // A line with what failed and errno's text. A program has no exit status, so the script that runs it goes by this line: what failed is
-// written even where signals interrupt, which os::fail does not promise.
+// written even where signals interrupt, which os::fail does not promise. An interruption changes errno, and then no cause is told.
 fn complain(what: &[u8]) {
+    let cause = os::errno();
     calls::write_all(STDERR_FILENO, what);
-    os::fail(b"");
+    if os::errno() == cause {
+        os::fail(b"");
+    } else {
+        calls::write_all(STDERR_FILENO, b"\n");
+    }
 }
