@@ -1,6 +1,6 @@
 // The checked types of a call's input, and the number by which bad input is refused.
 ghost use mathlib.Core.Path.{_≡_};
-ghost use Prim.Native.Nat.{_≤_};
+ghost use Prim.Native.Nat.{_≤_, min};
 ghost use lib.ListN.{length, replicate};
 ghost use Rattle.fit.specs.Place.{dOf, gOf};
 ghost use Rattle.fit.specs.Listing.{overlay};
@@ -46,15 +46,18 @@ impl Tolerance {
         }
     }
 
+    // The most that a reading of a place may differ from its point.
+    pub fn delta(self) -> u32
+        ensures { λ r. ⌜ r ≡ self .delta ⌝ }
+    {
+        self.delta
+    }
+
     // d, by which readings are near.
     pub fn d(self) -> u32
         ensures { λ r. ⌜ r ≡ dOf (self .delta) (self .gamma) ⌝ }
     {
-        if self.delta <= self.gamma {
-            self.delta
-        } else {
-            self.gamma
-        }
+        smaller(self.delta, self.gamma)
     }
 
     // g, the most that the sum of a place of m points can be.
@@ -71,6 +74,12 @@ impl Tolerance {
         }
         m * d
     }
+}
+
+fn smaller(a: u32, b: u32) -> u32
+    ensures { λ r. ⌜ r ≡ min a b ⌝ }
+{
+    if a <= b { a } else { b }
 }
 
 // A profile: its m points, and zeros beyond them.

@@ -41,7 +41,7 @@ pub fn front_of(input: &[u8]) -> Front
     }
     let delta = wide(input[0]);
     let gamma = wide(input[1]) * 256 + wide(input[2]);
-    let m = wide(input[3]) as usize;
+    let m = reading::index(input[3]);
     if n < 4 + m {
         return refused();
     }

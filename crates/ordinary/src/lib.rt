@@ -12,12 +12,16 @@ fn wide(a: u8) -> u16
 }
 
 // The four numbers of each point, in point order, and zeros beyond them.
-pub fn spans_of(profile: fit::Profile, delta: u32) -> [u16; 4 * fit::Profile::MAX_POINTS]
-    requires { ⌜ (profile .m ≤ maxPoints) × (delta ≤ maxDelta) ⌝ }
-    ensures { λ r. ⌜ r ≡ spansOf delta (pointsOf profile) ⌝ }
+pub fn spans_of(
+    profile: fit::Profile,
+    tolerance: fit::Tolerance,
+) -> [u16; 4 * fit::Profile::MAX_POINTS]
+    requires { ⌜ (profile .m ≤ maxPoints) × (tolerance .delta ≤ maxDelta) ⌝ }
+    ensures { λ r. ⌜ r ≡ spansOf (tolerance .delta) (pointsOf profile) ⌝ }
 {
     let points = profile.points();
     let m = profile.m();
+    let delta = tolerance.delta();
     let d = delta as u16;
     let mut spans = [0u16; 4 * fit::Profile::MAX_POINTS];
     let mut i = 0;

@@ -34,7 +34,7 @@ pub fn last_reading(points: &[u8], delta: u32, gamma: u32, a: u8) -> Jump
     if checked.refusal != 0 {
         return refused(checked.refusal);
     }
-    let spans = ordinary::spans_of(checked.profile, delta);
+    let spans = ordinary::spans_of(checked.profile, checked.tolerance);
     Jump {
         refusal: 0,
         jump: tables::last_jump(&spans, points.len(), gamma, a),
@@ -51,7 +51,7 @@ pub fn next_reading(points: &[u8], delta: u32, gamma: u32, a: u8) -> Jump
     if checked.refusal != 0 {
         return refused(checked.refusal);
     }
-    let spans = ordinary::spans_of(checked.profile, delta);
+    let spans = ordinary::spans_of(checked.profile, checked.tolerance);
     Jump {
         refusal: 0,
         jump: tables::next_jump(&spans, points.len(), gamma, a),

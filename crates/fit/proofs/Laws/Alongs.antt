@@ -6,7 +6,7 @@ use Prim.Native.Nat.{ℕ, _+_, _≤_, _<_}
 use native.Mathlib.Omega.{arith}
 use lib.ListN.{length, length-set, length-append}
 use Rattle.fit.specs.Listing.{Rising, those}
-use Rattle.fit.specs.Answer.{Sought, all, Lent, laid, begun, tally, outcome, filled, Answer, noted, listed, Tried}
+use Rattle.fit.specs.Answer.{Sought, Lent, laid, begun, tally, outcome, filled, Answer, noted, listed, Tried}
 use Rattle.fit.specs.declared.answer.Search.{Search}
 use Rattle.fit.proofs.Laws.Listings.{overlay-none, overlay-more}
 use Rattle.fit.proofs.Laws.Risings.{finds-all}

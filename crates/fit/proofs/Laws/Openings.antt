@@ -36,5 +36,5 @@ underway delta gamma x y e b z =
     record { ok = ok; carries = search-carries delta gamma x y e (ok .asked); none = begun-none _ started z }
 
 -- the profile of either may be compiled
-pub may-compile : (delta gamma : ℕ) (x : List ℕ) {q : Checked} → Asked delta gamma x → Carries delta gamma x q → (q .profile .m ≤ maxPoints) × (delta ≤ maxDelta)
-may-compile delta gamma x ok c = (omega (arith, c .m, ok .few), ok .delta-small)
+pub may-compile : (delta gamma : ℕ) (x : List ℕ) {q : Checked} → Asked delta gamma x → Carries delta gamma x q → (q .profile .m ≤ maxPoints) × (q .tolerance .delta ≤ maxDelta)
+may-compile delta gamma x ok c = (omega (arith, c .m, ok .few), rw (c .tolerance) (ok .delta-small))

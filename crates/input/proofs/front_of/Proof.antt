@@ -38,14 +38,11 @@ wide-requires-3 c κs = search needs
 add-gamma : tie.Need-add-gamma
 add-gamma c = search needs
 
-shared-slice-read-wide-4 : tie.Need-shared-slice-read-wide-4
-shared-slice-read-wide-4 c = search needs
+shared-slice-read-index : tie.Need-shared-slice-read-index
+shared-slice-read-index c = search needs
 
-wide-requires-4 : tie.Need-wide-requires-4
-wide-requires-4 c κs = search needs
-
-cast-m : tie.Need-cast-m
-cast-m c = search needs
+index-requires : tie.Need-index-requires
+index-requires c κs = search needs
 
 add-if2 : tie.Need-add-if2
 add-if2 c = search needs
@@ -68,7 +65,7 @@ returns-4 c =
     let third = fourth .before .before in
     let second = third .before .before in
     front-as-read _ _ _ _ _ (record { long = omega arith; short = omega arith }) (second .before .before .wide .ensures .0) (second .wide2 .ensures .0) (third .wide3 .ensures .0)
-    (fourth .wide4 .ensures .0)
+    (fourth .index .ensures .0)
 
 pub front-of-spec : {M : Type 1} → statement M
 front-of-spec =
@@ -84,9 +81,8 @@ front-of-spec =
     shared-slice-read-wide-3
     wide-requires-3
     add-gamma
-    shared-slice-read-wide-4
-    wide-requires-4
-    cast-m
+    shared-slice-read-index
+    index-requires
     add-if2
     refused-requires-2
     returns-2

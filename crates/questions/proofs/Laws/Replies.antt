@@ -45,7 +45,7 @@ module _ (delta gamma : ℕ) (x : List ℕ) {q : Checked} (e : q ≡ questionChe
     pub question-usable : (d : ℕ) → d ≡ dOf (q .tolerance .delta) (q .tolerance .gamma) → Usable d x
     question-usable d t = let p = posed delta gamma x e z in usable delta gamma x d (told-d delta gamma x (p .carries) t) (p .ok)
 
-    pub question-compiled : (spans : List ℕ) → spans ≡ spansOf delta (pointsOf (q .profile)) → (4 * length x ≤ length spans) × (length x ≤ maxPoints)
+    pub question-compiled : (spans : List ℕ) → spans ≡ spansOf (q .tolerance .delta) (pointsOf (q .profile)) → (4 * length x ≤ length spans) × (length x ≤ maxPoints)
     question-compiled spans s =
         let p = posed delta gamma x e z in
         (compiled-long delta x spans (told-spans delta gamma x (p .carries) s) (p .ok .few), p .ok .few)

@@ -1,13 +1,13 @@
 -- `fit::limits::Tolerance::d` meets its contract. Assumes nothing.
-use native.Mathlib.Omega.{arith}
+use borrow.Author.Needs.{needs}
 use Rattle.fit.proofs.limits.Tolerance.d.Statement.{statement}
 use Rattle.fit.proofs.limits.Tolerance.d.Tie as tie
 
-returns : tie.Need-returns
-returns c = omega arith
+smaller-requires : tie.Need-smaller-requires
+smaller-requires c κs = search needs
 
-returns-2 : tie.Need-returns-2
-returns-2 c = omega arith
+returns : tie.Need-returns
+returns c = c .smaller .ensures
 
 pub d-spec : {M : Type 1} → statement M
-d-spec = tie.close (tie.spec returns returns-2)
+d-spec = tie.close (tie.spec smaller-requires returns)
