@@ -1,15 +1,17 @@
-// The boundary to C and Rust: one function for each searcher and each question, one call deep, with the contract of what it calls.
+// The boundary to C and Rust: one function for each searcher and each question, which calls it, with its contract.
 // include/jilbaroof.h declares these functions for C, rust/jilbaroof.rs wraps them for Rust.
+use first::Flat;
 use fit::Search;
 use questions::Jump;
 ghost use mathlib.Core.Path.{_≡_};
 ghost use Prim.Native.Nat.{_-_};
 ghost use lib.ListN.{length};
 ghost use Rattle.fit.specs.Place.{fitOf, dOf, windows};
-ghost use Rattle.fit.specs.Refusal.{questionRefusal};
-ghost use Rattle.fit.specs.Answer.{lent, Answers};
+ghost use Rattle.fit.specs.Refusal.{questionRefusal, searchRefusal};
+ghost use Rattle.fit.specs.Answer.{soughtOf, lent, Answers};
 ghost use Rattle.packed.specs.Fourth.{PackedAnswers};
-ghost use Rattle.last.specs.Walk.{lastWalk};
+ghost use Rattle.last.specs.Walk.{lastWalkOf};
+ghost use Rattle.first.specs.First.{firstAnswer};
 ghost use Rattle.skip.specs.Walk.{skipWalk};
 ghost use Rattle.maximal.specs.Walk.{maximalWalk};
 ghost use Rattle.jumps.specs.Jumps.{lastJump, nextJump, afterJump, mismatchJump, fullJump};
@@ -59,8 +61,7 @@ pub extern "C" fn jilbaroof_last(
 ) -> Search
     ensures { λ r. ⌜
         Answers delta gamma (now (points .entry)) (now (recording .entry))
-        (length (lastWalk (fitOf (dOf delta gamma) (now (points .entry))) (length (now (points .entry)))
-        (afterJump (dOf delta gamma) (now (points .entry))) (now (recording .entry))))
+        (length (lastWalkOf delta gamma (now (points .entry)) (now (recording .entry))))
         (lent (now (list .entry))) r (lent (now (list .exit))) ⌝ }
 {
     last::search(points, delta, gamma, recording, list)
@@ -98,6 +99,18 @@ pub extern "C" fn jilbaroof_maximal(
         (lent (now (list .entry))) r (lent (now (list .exit))) ⌝ }
 {
     maximal::search(points, delta, gamma, recording, list)
+}
+
+// The first place, or none, in numbers.
+#[no_mangle]
+pub extern "C" fn jilbaroof_first(points: &[u8], delta: u32, gamma: u32, recording: &[u8]) -> Flat
+    ensures { λ r. ⌜
+        r ≡ firstAnswer (searchRefusal delta gamma (now (points .entry)) (now (recording .entry)))
+        (soughtOf delta gamma (now (points .entry)) (now (recording .entry)))
+        (lastWalkOf delta gamma (now (points .entry)) (now (recording .entry))) ⌝ }
+{
+    let answer = first::search(points, delta, gamma, recording);
+    first::told(answer)
 }
 
 // The last-reading jump for reading a.

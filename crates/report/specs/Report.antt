@@ -6,9 +6,8 @@ use Rattle.fit.specs.Place.{fitOf, dOf, windows}
 use Rattle.fit.specs.Refusal.{searchRefusal}
 use Rattle.fit.specs.Listing.{places}
 use Rattle.fit.specs.Answer.{soughtOf, outcome}
-use Rattle.jumps.specs.Jumps.{afterJump}
 use Rattle.packed.specs.Fourth.{packedRefusal}
-use Rattle.last.specs.Walk.{lastWalk}
+use Rattle.last.specs.Walk.{lastWalkOf}
 use Rattle.skip.specs.Walk.{skipWalk}
 use Rattle.maximal.specs.Walk.{maximalWalk}
 use Rattle.input.specs.Inputs.{deltaIn, gammaIn, ofInput, pointsIn, recordingIn}
@@ -52,7 +51,7 @@ module _ (delta gamma : ℕ) (x y : List ℕ) where
 
   abbrev pub lastLine : List ℕ
   lastLine =
-      lineFor lastName (searchRefusal delta gamma x y) (length (lastWalk (fitOf (dOf delta gamma) x) (length x) (afterJump (dOf delta gamma) x) y))
+      lineFor lastName (searchRefusal delta gamma x y) (length (lastWalkOf delta gamma x y))
 
   abbrev pub skipLine : List ℕ
   skipLine = lineFor skipName (searchRefusal delta gamma x y) (length (skipWalk (fitOf (dOf delta gamma) x) (length x) y))

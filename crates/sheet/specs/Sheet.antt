@@ -9,10 +9,10 @@ use Rattle.fit.specs.Refusal.{questionRefusal, searchRefusal}
 use Rattle.fit.specs.Answer.{soughtOf, all}
 use Rattle.counters.specs.Width.{widthOf}
 use Rattle.packed.specs.Fourth.{bitsOf, packedRefusal}
-use Rattle.jumps.specs.Jumps.{lastJump, afterJump, mismatchJump}
+use Rattle.jumps.specs.Jumps.{lastJump, mismatchJump}
 use Rattle.questions.specs.declared.Jump.{Jump}
 use Rattle.questions.specs.Asking.{jumpAnswer, mismatchRefusal}
-use Rattle.last.specs.Walk.{lastWalk}
+use Rattle.last.specs.Walk.{lastWalkOf}
 use Rattle.skip.specs.Walk.{skipWalk}
 use Rattle.maximal.specs.Walk.{maximalWalk}
 
@@ -33,7 +33,7 @@ abbrev pub found : Row → List ℕ
 found (places-are x y delta gamma places) = searchRefusal delta gamma x y ∷ all (soughtOf delta gamma x y)
 found (tried-are x y delta gamma plain last skip maximal) =
     windows (length x) (length y)
-    ∷ length (lastWalk (fitOf (dOf delta gamma) x) (length x) (afterJump (dOf delta gamma) x) y)
+    ∷ length (lastWalkOf delta gamma x y)
     ∷ length (skipWalk (fitOf (dOf delta gamma) x) (length x) y)
     ∷ length (maximalWalk (dOf delta gamma) x y)
     ∷ []

@@ -5,7 +5,7 @@ use mathlib.Core.List.{List}
 use Prim.Native.Nat.{ℕ, zero, suc, _+_, _≤_}
 use native.Mathlib.Omega.{arith}
 use lib.ListN.{length, set}
-use Rattle.fit.specs.Rule.{Rule, isPlaceBy, SameRule}
+use Rattle.fit.specs.Rule.{Rule, SameRule}
 use Rattle.fit.specs.Place.{ruleOf, isPlace, windows}
 use Rattle.fit.specs.Refusal.{searchRefusal, Accepted}
 use Rattle.fit.specs.Listing.{places, overlay}
@@ -13,12 +13,12 @@ use Rattle.fit.specs.Answer.{Sought, soughtBy, soughtOf, all, Lent, lent
 use Rattle.fit.specs.Made.{searchChecked}
 use Rattle.fit.specs.declared.limits.Checked.{Checked}
 use Rattle.fit.specs.declared.answer.Search.{Search}
-use Rattle.fit.proofs.Laws.Listings.{up-same, up-short}
+use Rattle.fit.proofs.Laws.Listings.{up-short}
 use Rattle.fit.proofs.Laws.Rules.{same-place}
 use Rattle.fit.proofs.Laws.Refusals.{accepted, none-exactly}
 
 -- ---- a search that has begun
-begun-number : (num : ℕ) {r : Search} → r ≡ begun num → r .refusal ≡ num
+pub begun-number : (num : ℕ) {r : Search} → r ≡ begun num → r .refusal ≡ num
 begun-number num e = ap (λ (r : Search). r .refusal) e
 
 -- its number is that of its checked input
@@ -44,21 +44,11 @@ begun-none num e z = e ∙ ap begun (none-refused num e z)
 pub begun-accepted : (delta gamma : ℕ) (x y : List ℕ) {r : Search} → r ≡ begun (searchRefusal delta gamma x y) → r .refusal ≡ 0 → Accepted delta gamma x y
 begun-accepted delta gamma x y e z = accepted delta gamma x y (none-refused (searchRefusal delta gamma x y) e z)
 
--- ---- the answer over spans is the answer for the profile: their rules ask the same
-same-sought : (num : ℕ) (t t′ : Sought) (tried : ℕ) {entry final : Lent} {r : Search} → all t ≡ all t′ → Answer num t tried entry r final → Answer num t′ tried entry r final
-unfolding outcome filled
-same-sought zero t t′ tried e a = record { result = rw e at (a .result); lists = rw e at (a .lists) }
-same-sought (suc num) t t′ tried e a = record { result = a .result; lists = a .lists }
-
-pub same-answer : (r′ : Rule) (delta gamma : ℕ) (x y : List ℕ) (tried : ℕ) {entry final : Lent} {r : Search} → Accepted delta gamma x y
-    → SameRule (length x) r′ (ruleOf delta x) → Answer 0 (soughtBy r′ (length x) gamma y) tried entry r final → Answers delta gamma x y tried entry r final
+-- ---- what is sought over spans is what is sought for the profile: their rules ask the same
+pub same-sought : (r′ : Rule) (delta gamma : ℕ) (x y : List ℕ) → SameRule (length x) r′ (ruleOf delta x) → soughtBy r′ (length x) gamma y ≡ soughtOf delta gamma x y
 unfolding isPlace
-same-answer r′ delta gamma x y tried ok q a =
-    rw (none-exactly delta gamma x y .1 ok)
-    (same-sought 0 (soughtBy r′ (length x) gamma y) (soughtOf delta gamma x y) tried
-    (up-same (isPlaceBy r′ (length x) gamma y) (isPlace delta gamma x y) (windows (length x) (length y))
-    (λ s l. same-place (length x) r′ (ruleOf delta x) q gamma y s))
-    a)
+same-sought r′ delta gamma x y q =
+    λ i. record { count = windows (length x) (length y); place = λ s. same-place (length x) r′ (ruleOf delta x) q gamma y s i }
 
 -- ---- what an answer says, in document 01's words
 -- what is sought is the list of places

@@ -16,13 +16,14 @@ use Rattle.fit.specs.Place.{fitOf, ruleOf, Place, dOf}
 use Rattle.fit.specs.Listing.{overlay}
 use Rattle.fit.specs.Refusal.{maxPoints, Accepted}
 use Rattle.fit.specs.Spans.{spanFits, ruleIn, spanOf, spansFor, spansOf, Ready}
-use Rattle.fit.specs.Answer.{soughtBy, Lent, Answer, Answers}
+use Rattle.fit.specs.Answer.{soughtBy, soughtOf, Lent, Answer, Answers}
 use Rattle.fit.specs.declared.answer.Search.{Search}
 use Rattle.fit.proofs.Laws.Bools.{and-left, and-right, and-both, same-test}
 use Rattle.fit.proofs.Laws.Readings.{near-le, near-lowest, le-near}
 use Rattle.fit.proofs.Laws.Rules.{same-place, same-near}
 use Rattle.fit.proofs.Laws.Places.{by-place, near-derived}
-use Rattle.fit.proofs.Laws.Answers.{same-answer}
+use Rattle.fit.proofs.Laws.Refusals.{none-exactly}
+use Rattle.fit.proofs.Laws.Answers.{same-sought}
 use Rattle.fit.proofs.Laws.Listings.{overlay-none, overlay-more, length-overlay, overlay-at}
 
 -- ---- four numbers a point
@@ -143,7 +144,9 @@ module _ (delta gamma : ℕ) (x y spans : List ℕ) (made : spans ≡ spansOf de
     short = ok .short;
   }
 
+  pub compiled-sought : soughtBy (ruleIn spans) (length x) gamma y ≡ soughtOf delta gamma x y
+  compiled-sought = same-sought (ruleIn spans) delta gamma x y (compiled-rule delta gamma x spans made (ok .asked .few))
+
   pub compiled-answer : (tried tried′ : ℕ) {entry final : Lent} {r : Search} → tried ≡ tried′
       → Answer 0 (soughtBy (ruleIn spans) (length x) gamma y) tried entry r final → Answers delta gamma x y tried′ entry r final
-  compiled-answer tried tried′ e a =
-      rw (← e) (same-answer (ruleIn spans) delta gamma x y tried ok (compiled-rule delta gamma x spans made (ok .asked .few)) a)
+  compiled-answer tried tried′ e a = rw (none-exactly delta gamma x y .1 ok, ← e, ← compiled-sought) a

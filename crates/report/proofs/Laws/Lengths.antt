@@ -13,10 +13,9 @@ use Rattle.fit.proofs.Laws.Places.{in-places}
 use Rattle.fit.proofs.Laws.Answers.{sought-places, places-short, outcome-small}
 use Rattle.fit.proofs.Laws.Refusals.{none-exactly, lowest-given}
 use Rattle.fit.proofs.Laws.Steps.{walk-short}
-use Rattle.jumps.specs.Jumps.{afterJump}
 use Rattle.packed.specs.Fourth.{packedRefusal}
 use Rattle.packed.proofs.Laws.Refusing.{packed-small, packed-exactly}
-use Rattle.last.specs.Walk.{lastTries, lastNext}
+use Rattle.last.proofs.Laws.Ordinary.{last-short}
 use Rattle.skip.proofs.Laws.Walks.{skip-short}
 use Rattle.maximal.specs.Walk.{maximalNext}
 use Rattle.input.specs.Inputs.{deltaIn, gammaIn, maxInput, ofInput, pointsIn, recordingIn}
@@ -63,11 +62,7 @@ module _ (delta gamma : ℕ) (x y : List ℕ) (short : length y ≤ maxInput) wh
       (λ none. let ok = packed-exactly delta gamma x y .0 none .0 in (omega (arith, few-sought ok), omega (arith, few-windows ok)))
 
   last-line-short : length (lastLine delta gamma x y) ≤ 20
-  last-line-short =
-      let d : ℕ = dOf delta gamma in
-      let near = fitOf d x in
-      common-short lastName _
-      (λ ok. omega (arith, few-windows ok, walk-short (lastTries near (length x) y) (lastNext near (length x) (afterJump d x) y) (windows (length x) (length y))))
+  last-line-short = common-short lastName _ (λ ok. omega (arith, few-windows ok, last-short delta gamma x y))
 
   skip-line-short : length (skipLine delta gamma x y) ≤ 20
   skip-line-short = common-short skipName _ (λ ok. omega (arith, short, skip-short (fitOf (dOf delta gamma) x) (length x) y (ok .asked .few)))

@@ -1,0 +1,128 @@
+-- Laws of looking for the first place along a walk, as long as no window is one. Assumes nothing.
+use mathlib.Core.Path.{_≡_, refl, sym, ap, _∙_}
+use mathlib.Core.Bool.{Bool, true, false}
+use mathlib.Core.List.{List, [], _∷_, _++_, append-assoc, append-nil, List·Memᴰ}
+use Prim.Native.Nat.{ℕ, zero, suc, _+_, _≤_, _<_, min}
+use native.Mathlib.Omega.{arith}
+use lib.ListN.{length, getD, length-append}
+use Rattle.fit.specs.Rule.{nearBy}
+use Rattle.fit.specs.Listing.{Rising, those}
+use Rattle.fit.specs.Refusal.{searchRefusal}
+use Rattle.fit.specs.Spans.{ruleIn}
+use Rattle.fit.specs.Answer.{Sought, soughtBy, soughtOf, all}
+use Rattle.fit.proofs.Laws.Refusals.{none-exactly}
+use Rattle.fit.proofs.Laws.Risings.{finds-all}
+use Rattle.last.specs.Walk.{lastWalk, lastWalkOf}
+use Rattle.last.specs.declared.walk.Prepared.{Prepared}
+use Rattle.last.proofs.Laws.Ordinary.{Going}
+use Rattle.first.specs.First.{numberOf, valueOf, toldOf, upToPlace, firstAnswer}
+use Rattle.first.specs.declared.Spot.the-variants.{Nowhere, At}
+use Rattle.first.specs.declared.Flat.{Flat}
+
+-- no window of a list passes p
+unfoldable pub noneOf : (ℕ → Bool) → List ℕ → Type 0
+noneOf p [] = Unit {0}
+noneOf p (s ∷ l) = (p s ≡ false) × noneOf p l
+
+module _ (p : ℕ → Bool) where
+  none-more : (l : List ℕ) (s : ℕ) → noneOf p l → p s ≡ false → noneOf p (l ++ (s ∷ []))
+  unfolding noneOf
+  none-more [] s n e = (e, tt)
+  none-more (a ∷ l) s n e = (n .0, none-more l s (n .1) e)
+
+  -- windows that do not pass are none of those that do, and are tried on the way
+  those-past : (l rest : List ℕ) → noneOf p l → those p (l ++ rest) ≡ those p rest
+  unfolding noneOf those
+  those-past [] rest n = refl
+  those-past (s ∷ l) rest n = rw (n .0) (those-past l rest (n .1))
+
+  up-past : (l rest : List ℕ) → noneOf p l → upToPlace p (l ++ rest) ≡ l ++ upToPlace p rest
+  unfolding noneOf upToPlace
+  up-past [] rest n = refl
+  up-past (s ∷ l) rest n = rw (n .0) (ap (λ (t : List ℕ). s ∷ t) (up-past l rest (n .1)))
+
+  -- the first that passes
+  those-at : (s : ℕ) (rest : List ℕ) → p s ≡ true → those p (s ∷ rest) ≡ s ∷ those p rest
+  unfolding those
+  those-at s rest e = rw e
+
+  up-at : (s : ℕ) (rest : List ℕ) → p s ≡ true → upToPlace p (s ∷ rest) ≡ s ∷ []
+  unfolding upToPlace
+  up-at s rest e = rw e
+
+  -- none passes
+  those-none : (l : List ℕ) → noneOf p l → those p l ≡ []
+  unfolding those
+  those-none l n = ap (those p) (sym (append-nil l)) ∙ those-past l [] n
+
+  up-whole : (l : List ℕ) → noneOf p l → upToPlace p l ≡ l
+  unfolding upToPlace
+  up-whole l n = ap (upToPlace p) (sym (append-nil l)) ∙ up-past l [] n ∙ append-nil l
+
+-- the windows of the walk before `rest` were tried, `bound` of them at most, and none of them passes
+pub record Looked (p : ℕ → Bool) (walk rest : List ℕ) (bound tried : ℕ) : Type 0 where
+  pub done : List ℕ
+  pub split : done ++ rest ≡ walk
+  pub none : noneOf p done
+  pub count : tried ≡ length done
+  pub room : tried ≤ bound
+
+pub looked-start : (p : ℕ → Bool) (bound : ℕ) {walk rest : List ℕ} → walk ≡ rest → Looked p walk rest bound 0
+unfolding noneOf
+looked-start p bound e = record { done = []; split = sym e; none = tt; count = refl; room = omega arith }
+
+pub looked-on : (p : ℕ → Bool) (s bound bound′ tried : ℕ) {walk rest rest′ : List ℕ} → Looked p walk rest bound tried → rest ≡ s ∷ rest′ → p s ≡ false
+    → bound < bound′ → Looked p walk rest′ bound′ (tried + 1)
+looked-on p s bound bound′ tried {rest′ = rest′} f e miss h = record {
+  done = f .done ++ (s ∷ []);
+  split = append-assoc (f .done) (s ∷ []) rest′ ∙ ap (λ (l : List ℕ). f .done ++ l) (sym e) ∙ f .split;
+  none = none-more p (f .done) s (f .none) miss;
+  count = rw (length-append, f .count);
+  room = omega (arith, f .room);
+}
+
+-- ---- the answer, on a walk that rises and has all that is sought among its windows
+module _ (t : Sought) (walk : List ℕ) (below : (s : ℕ) → t .place s ≡ true → s < t .count) (rises : Rising 0 walk)
+    (has : (s : ℕ) → t .place s ≡ true → List·Memᴰ s walk) where
+  all-those : all t ≡ those (t .place) walk
+  all-those = sym (finds-all (t .place) (t .count) walk below rises has)
+
+  pub first-at : (s bound tried : ℕ) {rest rest′ : List ℕ} → Looked (t .place) walk rest bound tried → rest ≡ s ∷ rest′ → t .place s ≡ true
+      → toldOf (record { refusal = 0; spot = At s; tried = tried + 1 }) ≡ firstAnswer 0 t walk
+  unfolding firstAnswer numberOf valueOf
+  first-at s bound tried {rest′ = rest′} f e hit =
+      let p = t .place in
+      let split : f .done ++ (s ∷ rest′) ≡ walk = ap (λ (l : List ℕ). f .done ++ l) (sym e) ∙ f .split in
+      let listed : all t ≡ s ∷ those p rest′ =
+      all-those ∙ ap (those p) (sym split) ∙ those-past p (f .done) (s ∷ rest′) (f .none) ∙ those-at p s rest′ hit in
+      let windows : upToPlace p walk ≡ f .done ++ (s ∷ []) =
+      ap (upToPlace p) (sym split) ∙ up-past p (f .done) (s ∷ rest′) (f .none) ∙ ap (λ (l : List ℕ). f .done ++ l) (up-at p s rest′ hit) in
+      let found : 1 ≡ min 1 (length (all t)) = omega (arith, ap length listed) in
+      let place : s ≡ getD (all t) 0 0 = ap (λ (l : List ℕ). getD l 0 0) (sym listed) in
+      let count : tried + 1 ≡ length (upToPlace p walk) = omega (arith, f .count, ap length windows, length-append (f .done) (s ∷ [])) in
+      λ i. record { refusal = 0; found = found i; place = place i; tried = count i }
+
+  pub first-none : (bound tried : ℕ) {rest : List ℕ} → Looked (t .place) walk rest bound tried → rest ≡ []
+      → toldOf (record { refusal = 0; spot = Nowhere; tried = tried }) ≡ firstAnswer 0 t walk
+  unfolding firstAnswer numberOf valueOf
+  first-none bound tried f e =
+      let p = t .place in
+      let whole : f .done ≡ walk = sym (append-nil (f .done)) ∙ ap (λ (l : List ℕ). f .done ++ l) (sym e) ∙ f .split in
+      let listed : all t ≡ [] = all-those ∙ ap (those p) (sym whole) ∙ those-none p (f .done) (f .none) in
+      let windows : upToPlace p walk ≡ f .done = ap (upToPlace p) (sym whole) ∙ up-whole p (f .done) (f .none) in
+      rw (listed, windows, f .count)
+
+-- refused
+refused-by : (num : ℕ) (t : Sought) (walk : List ℕ) → (num ≡ 0 → ⊥) → toldOf (record { refusal = num; spot = Nowhere; tried = 0 }) ≡ firstAnswer num t walk
+unfolding firstAnswer numberOf valueOf
+refused-by zero t walk h = absurd (h refl)
+refused-by (suc num) t walk h = refl
+
+pub first-refused : (num k : ℕ) (t : Sought) (walk : List ℕ) → k ≡ num → (k ≡ 0 → ⊥) → toldOf (record { refusal = k; spot = Nowhere; tried = 0 }) ≡ firstAnswer num t walk
+first-refused num k t walk e h = rw e (refused-by num t walk (λ z. h (e ∙ z)))
+
+-- what it answers over the spans is its answer
+pub going-first : (delta gamma : ℕ) (x y : List ℕ) {p : Prepared} {told : Flat} → Going delta gamma x y p
+    → told ≡ firstAnswer 0 (soughtBy (ruleIn (p .spans)) (length x) gamma y) (lastWalk (nearBy (ruleIn (p .spans)) gamma) (length x) (λ a. p .after) y)
+    → told ≡ firstAnswer (searchRefusal delta gamma x y) (soughtOf delta gamma x y) (lastWalkOf delta gamma x y)
+going-first delta gamma x y at e = rw (none-exactly delta gamma x y .1 (at .ok), ← at .walk, ← at .sought) e

@@ -1,0 +1,119 @@
+// Is there one at all? The first place, or none: it goes last's walk, and stops there.
+ghost use mathlib.Core.Path.{_≡_};
+ghost use lib.ListN.{length};
+ghost use Rattle.fit.specs.Rule.{nearBy};
+ghost use Rattle.fit.specs.Refusal.{searchRefusal};
+ghost use Rattle.fit.specs.Spans.{ruleIn, Ready};
+ghost use Rattle.fit.specs.Answer.{soughtBy, soughtOf};
+ghost use Rattle.jumps.specs.Jumps.{lastJump};
+ghost use Rattle.tables.specs.Holding.{Holds};
+ghost use Rattle.last.specs.Walk.{lastWalk, lastWalkOf, Safe};
+ghost use Rattle.first.specs.First.{toldOf, firstAnswer};
+
+// Where the first place is.
+pub enum Spot {
+    Nowhere,
+    At(usize),
+}
+
+// The number of the refusal, nowhere and 0; or 0, where the first place is, and the count of windows tried.
+pub struct First {
+    pub refusal: u32,
+    pub spot: Spot,
+    pub tried: usize,
+}
+
+// The same in numbers alone: `found` is 1 where there is a place, and else it and `place` are 0.
+#[repr(C)]
+pub struct Flat {
+    pub refusal: u32,
+    pub found: u32,
+    pub place: usize,
+    pub tried: usize,
+}
+
+// The first place of the profile in the recording.
+pub fn search(points: &[u8], delta: u32, gamma: u32, recording: &[u8]) -> First
+    ensures { λ r. ⌜
+        toldOf r ≡ firstAnswer (searchRefusal delta gamma (now (points .entry)) (now (recording .entry)))
+        (soughtOf delta gamma (now (points .entry)) (now (recording .entry)))
+        (lastWalkOf delta gamma (now (points .entry)) (now (recording .entry))) ⌝ }
+{
+    let prepared = last::prepare(points, delta, gamma, recording);
+    if prepared.refusal != 0 {
+        return First {
+            refusal: prepared.refusal,
+            spot: Spot::Nowhere,
+            tried: 0,
+        };
+    }
+    let spans = prepared.spans;
+    let table = prepared.table;
+    over_spans(
+        &spans,
+        points.len(),
+        gamma,
+        &table,
+        prepared.after,
+        recording,
+    )
+}
+
+// The same for m points compiled to spans, with the table of their last-reading jumps and the jump after a tried window.
+fn over_spans(
+    spans: &[u16],
+    m: usize,
+    gamma: u32,
+    table: &[u8; 256],
+    after: usize,
+    recording: &[u8],
+) -> First
+    requires { ⌜ Ready (now spans) m gamma (length (now recording)) ⌝ }
+    requires { ⌜
+        Holds (lastJump (nearBy (ruleIn (now spans)) gamma) m) 256 256 (now table)
+        × Safe (ruleIn (now spans)) m gamma (λ a. after) (now recording) ⌝ }
+    ensures { λ r. ⌜
+        toldOf r ≡ firstAnswer 0 (soughtBy (ruleIn (now (spans .entry))) m gamma (now (recording .entry)))
+        (lastWalk (nearBy (ruleIn (now (spans .entry))) gamma) m (λ a. after) (now (recording .entry))) ⌝ }
+{
+    let mut tried = 0;
+    let mut q = last::tried_from(table, recording, m - 1);
+    while q < recording.len() {
+        let s = q - (m - 1);
+        tried += 1;
+        if window::is_place(spans, m, gamma, recording, s) {
+            return First {
+                refusal: 0,
+                spot: Spot::At(s),
+                tried,
+            };
+        }
+        q = last::tried_after(table, after, recording, q);
+    }
+    First {
+        refusal: 0,
+        spot: Spot::Nowhere,
+        tried,
+    }
+}
+
+// An answer in numbers alone, for callers that have no enum.
+pub fn told(answer: First) -> Flat
+    ensures { λ r. ⌜ r ≡ toldOf answer ⌝ }
+{
+    let spot = answer.spot;
+    match spot {
+        Spot::Nowhere => Flat {
+            refusal: answer.refusal,
+            found: 0,
+            place: 0,
+            tried: answer.tried,
+        },
+        Spot::At(s) => Flat {
+            refusal: answer.refusal,
+            found: 1,
+            place: s,
+            tried: answer.tried,
+        },
+    }
+}

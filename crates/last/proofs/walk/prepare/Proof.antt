@@ -1,0 +1,68 @@
+-- `last::prepare` meets its contract: refused as its checked input is, or what the walk goes by. Assumes nothing.
+use mathlib.Core.Path.{refl}
+use Rattle.fit.proofs.Laws.Constructed.{told-d, told-spans}
+use Rattle.fit.proofs.Laws.Openings.{Underway, underway, may-compile}
+use Rattle.fit.specs.Answer.{begun}
+use Rattle.fit.proofs.Laws.Compiled.{ready}
+use Rattle.tables.proofs.Laws.Holdings.{usable}
+use Rattle.last.proofs.Laws.Ordinary.{prepared-refused, prepared-made}
+use borrow.Author.Needs.{needs}
+use Rattle.last.proofs.walk.prepare.Statement.{statement}
+use Rattle.last.proofs.walk.prepare.Tie as tie
+
+-- what is known past the refusals
+abbrev Started : tie.Else1 → Type 0
+Started c =
+    let a = c .before .before .before .before .before .args in
+    Underway (a .delta) (a .gamma) (a .points .now) (a .recording .now) (c .before .before .checked-search .result) (begun (c .before .before .checked-search .result .refusal))
+
+started : (c : tie.Else1) → Started c
+started c = underway _ _ _ _ (c .before .before .checked-search .ensures) refl (c .if1 .left)
+
+checked-search-requires : tie.Need-checked-search-requires
+checked-search-requires c κs = search needs
+
+returns : tie.Need-returns
+returns c = prepared-refused _ _ _ _ (c .before .before .checked-search .ensures) (c .if1 .taken)
+
+spans-of-requires : tie.Need-spans-of-requires
+spans-of-requires c κs = may-compile _ _ _ (started c .ok .asked) (started c .carries)
+
+d-requires : tie.Need-d-requires
+d-requires c κs = search needs
+
+after-jump-requires : tie.Need-after-jump-requires
+after-jump-requires c κs =
+    let at = started (c .before .before .before) in
+    usable _ _ _ _ (told-d _ _ _ (at .carries) (c .d .ensures)) (at .ok .asked)
+
+slice-aggregate-last-table : tie.Need-slice-aggregate-last-table
+slice-aggregate-last-table c = search needs
+
+last-table-requires : tie.Need-last-table-requires
+last-table-requires c κs =
+    let made = c .before .before .before .before in
+    let at = started (made .before) in
+    let fit = ready _ _ _ _ _ (told-spans _ _ _ (at .carries) (made .spans-of .ensures)) (at .ok) in
+    (fit .full, fit .few)
+
+returns-2 : tie.Need-returns-2
+returns-2 c =
+    let jumped = c .before .before in
+    let made = jumped .before .before .before in
+    let at = started (made .before) in
+    prepared-made _ _ _ _ (at .ok) (told-spans _ _ _ (at .carries) (made .spans-of .ensures)) (c .last-table .ensures)
+    (jumped .after-jump .ensures) (told-d _ _ _ (at .carries) (jumped .before .d .ensures))
+
+pub prepare-spec : {M : Type 1} → statement M
+prepare-spec =
+    tie.close
+    (tie.spec
+    checked-search-requires
+    returns
+    spans-of-requires
+    d-requires
+    after-jump-requires
+    slice-aggregate-last-table
+    last-table-requires
+    returns-2)

@@ -1,0 +1,23 @@
+-- What last's walk goes by: it is built once per search. Assumes nothing.
+use Prim.Native.Nat.{ℕ, zero, suc}
+use mathlib.Core.Path.{_≡_}
+use mathlib.Core.List.{List}
+use lib.ListN.{length, replicate}
+use Rattle.fit.specs.Rule.{nearBy}
+use Rattle.fit.specs.Place.{dOf}
+use Rattle.fit.specs.Spans.{ruleIn, spansOf}
+use Rattle.jumps.specs.Jumps.{lastJump, afterJump}
+use Rattle.tables.specs.Holding.{Holds}
+use Rattle.last.specs.declared.walk.Prepared.{Prepared}
+
+-- the spans of the profile, the last-reading jump of each reading, and the jump after a tried window
+pub record GoesBy (delta gamma : ℕ) (x : List ℕ) (p : Prepared) : Type 0 where
+  pub none : p .refusal ≡ 0
+  pub spans : p .spans ≡ spansOf delta x
+  pub table : Holds (lastJump (nearBy (ruleIn (p .spans)) gamma) (length x)) 256 256 (p .table)
+  pub after : p .after ≡ afterJump (dOf delta gamma) x
+
+-- by the refusal's number: that, or the number and zeros
+unfoldable pub PreparedBy : ℕ → ℕ → ℕ → List ℕ → Prepared → Type 0
+PreparedBy zero delta gamma x p = GoesBy delta gamma x p
+PreparedBy (suc num) delta gamma x p = p ≡ record { refusal = suc num; spans = replicate 256 0; table = replicate 256 0; after = 0 }
