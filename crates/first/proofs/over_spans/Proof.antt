@@ -56,7 +56,7 @@ returns c =
     let at-test = checked .before in
     let inv = at-test .before .loop .inv in
     first-at _ _ (λ s p. by-below _ _ _ _ s p) (last-rises _ _ _ _ _ (inv .1 .some) (inv .1 .safe)) (λ s p. last-has _ _ _ _ _ (inv .1 .some) (inv .1 .safe) s p) _ _ _
-    (inv .2) (stands-try _ _ _ _ _ _ _ (inv .1) (at-test .loop-test .taken) _ refl) (sym (checked .is-place .ensures) ∙ c .if1 .taken)
+    (inv .2) (stands-try _ _ _ _ _ _ _ (inv .1) (omega arith) _ refl) (sym (checked .is-place .ensures) ∙ c .if1 .taken)
 
 tried-after-requires : tie.Need-tried-after-requires Inv-loop μ-loop
 tried-after-requires c κs =
@@ -66,7 +66,7 @@ tried-after-requires c κs =
 loop-less : tie.Need-loop-less Inv-loop μ-loop
 loop-less c =
     let at-test = c .before .before .before in
-    omega (arith, stands-forth _ _ _ _ _ _ _ (at-test .before .loop .inv .1) (at-test .loop-test .taken) _ (c .tried-after .ensures))
+    omega (arith, stands-forth _ _ _ _ _ _ _ (at-test .before .loop .inv .1) (omega arith) _ (c .tried-after .ensures))
 
 loop-again : tie.Need-loop-again Inv-loop μ-loop
 loop-again c =
