@@ -1,9 +1,9 @@
 //! How a case is handed to the program, and what the program must print for it.
 //!
 //! A frame: delta and gamma in 4 bytes each, m in 2, n in 4, room in 2, all high byte first; then m points, then n readings.
-//! Frames follow each other to the end of the input. A case has ten lines of output, so that line 10k + j belongs to case k.
+//! Frames follow each other to the end of the input. A case has eleven lines of output, so that line 11k + j belongs to case k.
 
-use crate::reference::{self, Jump, Profile, SEARCHERS};
+use crate::reference::{self, First, Jump, Profile, SEARCHERS};
 use std::io::{self, Read, Write};
 
 /// The program takes frames up to these sizes.
@@ -14,7 +14,7 @@ pub const MOST_ROOM: usize = 200;
 /// Before each search, entry k of the lent list is this and k, so that an untouched entry shows.
 pub const UNTOUCHED: u32 = 1_000_000_000;
 
-pub const LINES: usize = 10;
+pub const LINES: usize = 11;
 
 pub struct Case {
     pub profile: Profile,
@@ -55,7 +55,7 @@ pub fn read_frames(input: &mut impl Read) -> io::Result<Vec<Case>> {
     Ok(cases)
 }
 
-/// The ten lines that the program must print.
+/// The lines that the program must print.
 pub fn answers(case: &Case) -> Vec<String> {
     let profile = &case.profile;
     let mut lines = Vec::new();
@@ -68,6 +68,7 @@ pub fn answers(case: &Case) -> Vec<String> {
         }
         lines.push(line);
     }
+    lines.push(first_line(reference::first(profile, &case.recording)));
     let greatest_number = profile.m().min(64) + 1;
     lines.push(pairs("last_reading", (0..=255).map(|a| reference::last_reading(profile, a)).collect()));
     lines.push(pairs("next_reading", (0..=255).map(|a| reference::next_reading(profile, a)).collect()));
@@ -76,6 +77,15 @@ pub fn answers(case: &Case) -> Vec<String> {
     lines.push(pairs("mismatch", reference::mismatches(profile, 0..=greatest_number)));
     assert_eq!(lines.len(), LINES);
     lines
+}
+
+/// The refusal, 1 and the place or two zeros, and the count of windows tried.
+fn first_line(first: First) -> String {
+    let (found, place) = match first.place {
+        Some(s) => (1, s),
+        None => (0, 0),
+    };
+    format!("first {} {found} {place} {}", first.refusal, first.tried)
 }
 
 fn pairs(name: &str, jumps: Vec<Jump>) -> String {

@@ -71,7 +71,7 @@ fn count_differences(frames_path: &str, output_path: &str) -> io::Result<bool> {
         let line = |k: usize| lines.get(number * frames::LINES + k).copied().unwrap_or("(no line)");
         if let Some(k) = (0..frames::LINES).find(|&k| line(k) != expected[k]) {
             if differences == 0 {
-                println!("case {number} (counted from 0), line {k} of its ten:\n{}", frames::describe(case));
+                println!("case {number} (counted from 0), line {k} of its {}:\n{}", frames::LINES, frames::describe(case));
                 show("expected", &expected[k], line(k));
                 show("printed", line(k), &expected[k]);
             }

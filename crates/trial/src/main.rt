@@ -51,7 +51,7 @@ fn is_whole(got: usize, m: usize, n: usize, head: Head) -> bool {
     head.n <= n
 }
 
-// Prints the ten lines of one case, with lent lists of `room` entries.
+// Prints the lines of one case, with lent lists of `room` entries.
 fn print_case(points: &[u8], delta: u32, gamma: u32, recording: &[u8], room: usize) {
     let mut page = io::large_buffer();
     let at = searched::searches(&mut page, points, delta, gamma, recording, room);

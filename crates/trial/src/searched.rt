@@ -1,5 +1,7 @@
-// The lines of the searchers: the refusal, the total of places, the count of windows tried, and every entry of the lent list.
+// The lines of the searchers: the refusal, the total of places, the count of windows tried, and every entry of the lent list. Then that of
+// `first`, which has no list: the refusal, 1 where there is a place, that place, and the count of windows tried.
 use super::lines;
+use first::Flat;
 use fit::Search;
 
 // A lent list has at most so many entries.
@@ -14,7 +16,7 @@ enum By {
     Maximal,
 }
 
-// A line for each searcher, each with a list of its own of so many entries.
+// A line for each searcher, each with a list of its own of so many entries, and the line of `first`.
 pub(crate) fn searches(
     page: &mut [u8],
     points: &[u8],
@@ -27,7 +29,8 @@ pub(crate) fn searches(
     let at = with_list(page, at, By::Packed, points, delta, gamma, recording, room);
     let at = with_list(page, at, By::Last, points, delta, gamma, recording, room);
     let at = with_list(page, at, By::Skip, points, delta, gamma, recording, room);
-    with_list(page, at, By::Maximal, points, delta, gamma, recording, room)
+    let at = with_list(page, at, By::Maximal, points, delta, gamma, recording, room);
+    first_place(page, at, points, delta, gamma, recording)
 }
 
 fn with_list(
@@ -106,4 +109,25 @@ fn search(
         By::Skip => skip::search(points, delta, gamma, recording, list),
         By::Maximal => maximal::search(points, delta, gamma, recording, list),
     }
+}
+
+fn first_place(
+    page: &mut [u8],
+    at: usize,
+    points: &[u8],
+    delta: u32,
+    gamma: u32,
+    recording: &[u8],
+) -> usize {
+    let answer = first::search(points, delta, gamma, recording);
+    let named = page::put_text(page, at, b"first");
+    let told = numbers(page, named, first::told(answer));
+    page::put_text(page, told, b"\n")
+}
+
+fn numbers(page: &mut [u8], at: usize, answer: Flat) -> usize {
+    let refused = lines::spaced(page, at, answer.refusal as u64);
+    let found = lines::spaced(page, refused, answer.found as u64);
+    let placed = lines::spaced(page, found, answer.place as u64);
+    lines::spaced(page, placed, answer.tried as u64)
 }
