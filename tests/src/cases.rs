@@ -434,7 +434,7 @@ fn long_recording(draw: &mut Draw, turn: usize) -> Made {
 mod coverage {
     use super::*;
     use crate::frames;
-    use crate::reference::{counter_width, places, refusal_of_profile, refusal_of_search, Searcher};
+    use crate::reference::{counter_width, first, places, refusal_of_profile, refusal_of_search, First, Searcher};
 
     /// The sum of differences at a window, if they are all at most delta.
     fn near_sum(profile: &Profile, window: &[u8]) -> Option<u32> {
@@ -480,6 +480,31 @@ mod coverage {
         ]
     }
 
+    /// Where the first place stands, what is tried before it or without it, and why there is no answer.
+    fn first_situations(case: &Case) -> Vec<(&'static str, bool)> {
+        let (m, n) = (case.profile.points.len() as i64, case.recording.len() as i64);
+        let First { refusal, place, tried } = first(&case.profile, &case.recording);
+        let found = places(&case.profile, &case.recording);
+        let only_the_last = n > m && found == [n - m];
+        let none = refusal == 0 && place.is_none();
+        vec![
+            ("first: refused 1", refusal == 1),
+            ("first: refused 2", refusal == 2),
+            ("first: refused 3", refusal == 3),
+            ("first: at 0", place == Some(0)),
+            ("first: at 0, the first of many", place == Some(0) && found.len() > 20),
+            ("first: behind windows that are not tried", place > Some(0) && tried == 1),
+            ("first: behind windows tried in vain", place.is_some() && tried > 1),
+            ("first: behind windows tried in vain, the first of many", found.len() > 20 && tried > 1),
+            ("first: the only place is the last window", only_the_last && tried == 1),
+            ("first: the only place is the last window, others tried in vain", only_the_last && tried > 1),
+            ("first: none, with windows tried", none && tried > 0),
+            ("first: none, with windows and none of them tried", none && m <= n && tried == 0),
+            ("first: none, with no window (n < m)", none && 0 < n && n < m),
+            ("first: none, with no reading", none && n == 0),
+        ]
+    }
+
     /// What the default run must contain: each line is a situation, and at least so many cases must be in it.
     #[test]
     fn the_default_run_has_every_situation() {
@@ -491,6 +516,9 @@ mod coverage {
             let mut meets = |situation: &'static str, yes: bool| *met.entry(situation).or_insert(0) += yes as usize;
             for (refusal, name) in [(1, "refusal 1"), (2, "refusal 2"), (3, "refusal 3"), (4, "refusal 4")] {
                 meets(name, refusal_of_search(Searcher::Packed, &case.profile, &case.recording) == refusal);
+            }
+            for (situation, yes) in first_situations(&case) {
+                meets(situation, yes);
             }
             meets("two refusals", (m == 0 || m > 64) && (delta > 255 || gamma > 16_320));
             meets("delta greatest", delta == u32::MAX);
@@ -537,7 +565,7 @@ mod coverage {
             println!("{count:5} {situation}");
             // long recordings are few, since they take most of the time
             let least = match situation {
-                "refusal 3" | "n is the greatest" => 1,
+                "refusal 3" | "first: refused 3" | "n is the greatest" => 1,
                 _ if situation.starts_with("block") => 8,
                 _ => 3,
             };
