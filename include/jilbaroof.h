@@ -1,4 +1,4 @@
-/* Jilbaroof for C: find a pressure profile in a recording, and ask how far a search may jump.
+/* Jilbaroof for C: find a pressure profile in a recording, all its places or the first, and ask how far a search may jump.
  *
  * A reading is a byte. A profile is 1 to 64 readings, called points; a recording is up to 1,000,000 readings. The window at s is the
  * m readings from position s on, for a profile of m points. s is a place when every difference between a point and its reading is at
@@ -13,11 +13,11 @@
  * Where a length is 0, nothing is read or written through its pointer, which may be NULL.
  * The functions have no state and may be called from several threads at once. They are compiled for 64-bit processors: size_t has 64 bits.
  *
- * Refusals: the lowest number that applies. A refused call has counts and jump 0 and leaves the list as it was.
+ * Refusals: the lowest number that applies. A refused call answers 0 in every other field and leaves the list as it was.
  *   0  accepted
  *   1  the profile has no points, or more than 64
  *   2  delta is above 255, or gamma above 16,320
- *   3  the recording has more than 1,000,000 readings (searchers)
+ *   3  the recording has more than 1,000,000 readings (searchers and jilbaroof_first)
  *   4  the counters do not fit one word: m times their width exceeds 64 (jilbaroof_packed). The width is 1 + b, b the least with 2^b
  *      above the smaller of gamma and m times d, d the smaller of delta and gamma
  *   6  the point number is 0 or above m (jilbaroof_mismatch)
@@ -39,6 +39,14 @@ typedef struct {
     size_t total;     /* how many places there are, listed or not */
     size_t tried;     /* how many windows this searcher tried */
 } jilbaroof_search;
+
+/* What jilbaroof_first answers. */
+typedef struct {
+    uint32_t refusal; /* 0, or why the call was refused */
+    uint32_t found;   /* 1 where there is a place, and 0 where there is none */
+    size_t place;     /* the first place; 0 where there is none, so look at found first */
+    size_t tried;     /* how many windows were tried */
+} jilbaroof_first_place;
 
 /* What a question answers. */
 typedef struct {
@@ -69,6 +77,12 @@ jilbaroof_search jilbaroof_skip(const uint8_t *points, size_t m, uint32_t delta,
 /* Compares the points that promise long jumps first, and takes the larger of two jumps. */
 jilbaroof_search jilbaroof_maximal(const uint8_t *points, size_t m, uint32_t delta, uint32_t gamma,
                                    const uint8_t *recording, size_t n, uint32_t *list, size_t room);
+
+/* Is there a place at all? Goes as jilbaroof_last does, stops at the first place, and lists nothing. The place is the first entry of a
+ * searcher's list, and there is none exactly where a searcher's total is 0. `tried` counts the windows that jilbaroof_last tries up to and
+ * including that place; where there is none, all that it tries. */
+jilbaroof_first_place jilbaroof_first(const uint8_t *points, size_t m, uint32_t delta, uint32_t gamma,
+                                      const uint8_t *recording, size_t n);
 
 /* The five questions: how far a search may go on from a window without passing a place, given what it has seen. Near means: differs by
  * at most the smaller of delta and gamma. */

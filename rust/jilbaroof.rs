@@ -18,6 +18,14 @@ pub struct Search {
     pub tried: usize,
 }
 
+/// What `first` answers: the number of its refusal, no place and 0; or 0, the first place if there is one, and the count of windows tried.
+#[derive(Clone, Copy, Debug, PartialEq, Eq)]
+pub struct First {
+    pub refusal: u32,
+    pub spot: Option<usize>,
+    pub tried: usize,
+}
+
 /// What a question answers: the number of its refusal and 0; or 0 and the jump.
 #[repr(C)]
 #[derive(Clone, Copy, Debug, PartialEq, Eq)]
@@ -50,7 +58,17 @@ mod boundary {
 
     searchers! { jilbaroof_plain jilbaroof_packed jilbaroof_last jilbaroof_skip jilbaroof_maximal }
 
+    /// `First` as C has it: `found` is 1 where there is a place, and else it and `place` are 0.
+    #[repr(C)]
+    pub struct Flat {
+        pub refusal: u32,
+        pub found: u32,
+        pub place: usize,
+        pub tried: usize,
+    }
+
     unsafe extern "C" {
+        pub fn jilbaroof_first(points: *const u8, m: usize, delta: u32, gamma: u32, recording: *const u8, n: usize) -> Flat;
         pub fn jilbaroof_last_reading(points: *const u8, m: usize, delta: u32, gamma: u32, a: u8) -> Jump;
         pub fn jilbaroof_next_reading(points: *const u8, m: usize, delta: u32, gamma: u32, a: u8) -> Jump;
         pub fn jilbaroof_after_check(points: *const u8, m: usize, delta: u32, gamma: u32) -> Jump;
@@ -103,6 +121,15 @@ searcher! {
 searcher! {
     /// Takes the larger of the next-reading jump and the mismatch jump.
     maximal, jilbaroof_maximal
+}
+
+/// The first place, or none: goes as `last` does, and stops there. The windows tried are those that `last` tries up to and including that
+/// place; where there is none, all of them.
+pub fn first(points: &[u8], delta: u32, gamma: u32, recording: &[u8]) -> First {
+    // SAFETY: the slices are valid for their lengths and only read
+    let flat =
+        unsafe { boundary::jilbaroof_first(points.as_ptr(), points.len(), delta, gamma, recording.as_ptr(), recording.len()) };
+    First { refusal: flat.refusal, spot: (flat.found == 1).then_some(flat.place), tried: flat.tried }
 }
 
 /// The last-reading jump: the window's last reading is `a`; 0 says that the window must be tried.
