@@ -25,6 +25,11 @@ static int is(jilbaroof_search got, uint32_t refusal, size_t total, size_t tried
     return got.refusal == refusal && got.total == total && got.tried == tried;
 }
 
+static int tells(jilbaroof_first_place got, uint32_t refusal, uint32_t found, size_t place, size_t tried)
+{
+    return got.refusal == refusal && got.found == found && got.place == place && got.tried == tried;
+}
+
 static int says(jilbaroof_jump got, uint32_t refusal, size_t jump)
 {
     return got.refusal == refusal && got.jump == jump;
@@ -48,6 +53,7 @@ static void search_refused(const char *name, searcher ask)
     uint32_t list[1] = {9};
     hold(name, is(ask(NULL, 0, 256, 16321, many, 1000001, list, 1), 1, 0, 0));
     hold(name, is(ask(many, 65, 1, 2, L, 14, list, 1), 1, 0, 0));
+    hold(name, is(ask(many, 65537, 1, 2, L, 14, list, 1), 1, 0, 0));
     hold(name, is(ask(P, 3, 256, 2, many, 1000001, list, 1), 2, 0, 0));
     hold(name, is(ask(P, 3, 65537, 2, L, 14, list, 1), 2, 0, 0));
     hold(name, is(ask(P, 3, 1, 16321, L, 14, list, 1), 2, 0, 0));
@@ -70,6 +76,43 @@ static void search_limits(const char *name, searcher ask)
     hold(name, all.refusal == 0 && all.total == 12);
     jilbaroof_search none = ask(P, 3, 1, 2, many, 1000000, list, 1);
     hold(name, none.refusal == 0 && none.total == 0);
+}
+
+/* E4; E4 from position 1 on and E5 from 2 on, where place and count differ; a place at the last window, and none with one reading less; a
+ * place and a count that 16 bits do not hold. */
+static void first(void)
+{
+    static uint8_t late[1000000];
+    late[999997] = 9;
+    hold("first, E4", tells(jilbaroof_first(P, 3, 1, 2, L, 14), 0, 1, 0, 1));
+    hold("first, E4 from 1", tells(jilbaroof_first(P, 3, 1, 2, L + 1, 13), 0, 1, 5, 3));
+    hold("first, E5 from 2", tells(jilbaroof_first(P, 3, 1, 3, L + 2, 12), 0, 1, 1, 2));
+    hold("first, last window", tells(jilbaroof_first(P, 3, 1, 2, L + 1, 8), 0, 1, 5, 3));
+    hold("first, none", tells(jilbaroof_first(P, 3, 1, 2, L + 1, 7), 0, 0, 0, 2));
+    hold("first, far on", tells(jilbaroof_first((const uint8_t[]){9, 0, 0}, 3, 0, 0, late, 1000000), 0, 1, 999997, 999996));
+}
+
+/* Refusals 1 to 3, as the searchers have them. */
+static void first_refused(void)
+{
+    hold("first, 1", tells(jilbaroof_first(NULL, 0, 256, 16321, many, 1000001), 1, 0, 0, 0));
+    hold("first, 1", tells(jilbaroof_first(many, 65, 1, 2, L, 14), 1, 0, 0, 0));
+    hold("first, 1", tells(jilbaroof_first(many, 65537, 1, 2, L, 14), 1, 0, 0, 0));
+    hold("first, 2", tells(jilbaroof_first(P, 3, 256, 2, many, 1000001), 2, 0, 0, 0));
+    hold("first, 2", tells(jilbaroof_first(P, 3, 65537, 2, L, 14), 2, 0, 0, 0));
+    hold("first, 2", tells(jilbaroof_first(P, 3, 1, 16321, L, 14), 2, 0, 0, 0));
+    hold("first, 2", tells(jilbaroof_first(P, 3, 1, 65538, L, 14), 2, 0, 0, 0));
+    hold("first, 3", tells(jilbaroof_first(P, 3, 1, 2, many, 1000001), 3, 0, 0, 0));
+}
+
+/* What is just allowed. A million readings are in first(). */
+static void first_limits(void)
+{
+    hold("first, no reading", tells(jilbaroof_first(P, 3, 1, 2, NULL, 0), 0, 0, 0, 0));
+    hold("first, 2 readings", tells(jilbaroof_first(P, 3, 1, 2, L, 2), 0, 0, 0, 0));
+    hold("first, 3 readings", tells(jilbaroof_first(P, 3, 1, 2, L, 3), 0, 1, 0, 1));
+    hold("first, 64 points", tells(jilbaroof_first(many, 64, 0, 0, many, 64), 0, 1, 0, 1));
+    hold("first, widest", tells(jilbaroof_first(P, 3, 255, 16320, L + 1, 13), 0, 1, 0, 1));
 }
 
 /* The questions as functions of the profile and the tolerances alone. Point 0 would be refused by 6, and 1 and 2 come first. */
@@ -115,6 +158,10 @@ int main(void)
     hold("packed, 64 bits", is(jilbaroof_packed(many, 16, 1, 7, L, 14, NULL, 0), 0, 0, 0));
     hold("packed, 80 bits", is(jilbaroof_packed(many, 16, 1, 8, L, 14, NULL, 0), 4, 0, 0));
     hold("packed, 3 before 4", is(jilbaroof_packed(many, 16, 1, 8, many, 1000001, NULL, 0), 3, 0, 0));
+
+    first();
+    first_refused();
+    first_limits();
 
     hold("last_reading 44", says(jilbaroof_last_reading(P, 3, 1, 2, 44), 0, 0));
     hold("last_reading 41", says(jilbaroof_last_reading(P, 3, 1, 2, 41), 0, 1));

@@ -1,5 +1,5 @@
 //! Calls every function of rust/jilbaroof.rs, and holds the answers to the sheet of the specification, to its refusals and to its limits.
-use jilbaroof::{Jump, Search, Searcher};
+use jilbaroof::{First, Jump, Search, Searcher};
 
 const P: [u8; 3] = [40, 42, 44];
 const L: [u8; 14] = [40, 42, 44, 41, 43, 45, 39, 42, 43, 70, 41, 41, 43, 40];
@@ -17,17 +17,23 @@ fn search(name: &str, ask: Searcher, tried: usize) {
     assert_eq!(ask(&P, 1, 2, &L, &mut []).total, 2, "{name}");
 }
 
-/// Refusals 1 to 3, the lowest that applies, by numbers that a narrower type would cut to allowed ones too; the list stays as it was.
-fn search_refused(name: &str, ask: Searcher, many: &[u8]) {
-    for (number, points, delta, gamma, recording) in [
+/// Refusals 1 to 3, the lowest that applies, by numbers that a narrower type would cut to allowed ones too.
+fn refusals(many: &[u8]) -> [(u32, &[u8], u32, u32, &[u8]); 8] {
+    [
         (1, &P[..0], 256, 16_321, many),
-        (1, &many[..65], 1, 2, &L[..]),
-        (2, &P[..], 256, 2, many),
-        (2, &P[..], 65_537, 2, &L[..]),
-        (2, &P[..], 1, 16_321, &L[..]),
-        (2, &P[..], 1, 65_538, &L[..]),
-        (3, &P[..], 1, 2, many),
-    ] {
+        (1, &many[..65], 1, 2, &L),
+        (1, &many[..65_537], 1, 2, &L),
+        (2, &P, 256, 2, many),
+        (2, &P, 65_537, 2, &L),
+        (2, &P, 1, 16_321, &L),
+        (2, &P, 1, 65_538, &L),
+        (3, &P, 1, 2, many),
+    ]
+}
+
+/// Each of them, and the list stays as it was.
+fn search_refused(name: &str, ask: Searcher, many: &[u8]) {
+    for (number, points, delta, gamma, recording) in refusals(many) {
         let mut list = [9; 5];
         let refused = Search { refusal: number, total: 0, tried: 0 };
         assert_eq!(ask(points, delta, gamma, recording, &mut list), refused, "{name}");
@@ -49,6 +55,37 @@ fn search_limits(name: &str, ask: Searcher, many: &[u8]) {
     assert_eq!((all.refusal, all.total), (0, 12), "{name}");
     let none = ask(&P, 1, 2, &many[..1_000_000], &mut []);
     assert_eq!((none.refusal, none.total), (0, 0), "{name}");
+}
+
+/// E4; E4 from position 1 on and E5 from 2 on, where place and count differ; a place at the last window, and none with one reading less; a
+/// place and a count that 16 bits do not hold.
+fn first() {
+    let mut late = vec![0; 1_000_000];
+    late[999_997] = 9;
+    for (points, delta, gamma, recording, spot, tried) in [
+        (&P, 1, 2, &L[..], Some(0), 1),
+        (&P, 1, 2, &L[1..], Some(5), 3),
+        (&P, 1, 3, &L[2..], Some(1), 2),
+        (&P, 1, 2, &L[1..9], Some(5), 3),
+        (&P, 1, 2, &L[1..8], None, 2),
+        (&[9, 0, 0], 0, 0, &late, Some(999_997), 999_996),
+    ] {
+        assert_eq!(jilbaroof::first(points, delta, gamma, recording), First { refusal: 0, spot, tried });
+    }
+}
+
+/// As for the searchers: refusals 1 to 3, and what is just allowed.
+fn first_limits(many: &[u8]) {
+    for (number, points, delta, gamma, recording) in refusals(many) {
+        let refused = First { refusal: number, spot: None, tried: 0 };
+        assert_eq!(jilbaroof::first(points, delta, gamma, recording), refused);
+    }
+    let found = |spot, tried| First { refusal: 0, spot, tried };
+    assert_eq!(jilbaroof::first(&P, 1, 2, &[]), found(None, 0));
+    assert_eq!(jilbaroof::first(&P, 1, 2, &L[..2]), found(None, 0));
+    assert_eq!(jilbaroof::first(&P, 1, 2, &L[..3]), found(Some(0), 1));
+    assert_eq!(jilbaroof::first(&many[..64], 0, 0, &many[..64]), found(Some(0), 1));
+    assert_eq!(jilbaroof::first(&P, 255, 16_320, &L[1..]), found(Some(0), 1));
 }
 
 fn question_refused(ask: fn(&[u8], u32, u32) -> Jump) {
@@ -80,6 +117,9 @@ fn main() {
     assert_eq!(jilbaroof::packed(&[0; 16], 1, 7, &L, &mut []).refusal, 0);
     assert_eq!(jilbaroof::packed(&[0; 16], 1, 8, &L, &mut []), Search { refusal: 4, total: 0, tried: 0 });
     assert_eq!(jilbaroof::packed(&[0; 16], 1, 8, &many, &mut []).refusal, 3);
+
+    first();
+    first_limits(&many);
 
     question_refused(|x, delta, gamma| jilbaroof::last_reading(x, delta, gamma, 44));
     question_refused(|x, delta, gamma| jilbaroof::next_reading(x, delta, gamma, 44));
