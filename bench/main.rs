@@ -1,8 +1,11 @@
 //! Measures the five searchers, through the C boundary, against the two programs of rivals.rs and, where there is one, a Python with
 //! NumPy; built with `--cfg earlier`, also against the searchers of an earlier revision. It prints a table. Every answer, total and whole
 //! list, is held to the straightforward program's; a difference ends the bench with status 1. Times are the minimum over interleaved
-//! rounds: each round runs every program once, after clearing the list and reading the recording once for each.
-//! The arguments are the number of rounds and, for NumPy, the command that starts bench/whole_arrays.py.
+//! rounds: each round runs every program once, after clearing the list and reading the recording once for each. A second table, of first.rs,
+//! has `first` beside `last`.
+//! The arguments are the number of rounds and, for NumPy, the command that starts bench/whole_arrays.py; or `first` and the number of rounds,
+//! for the second table alone.
+mod first;
 mod numpy;
 mod rivals;
 mod rows;
@@ -66,6 +69,14 @@ fn contenders(numpy: Option<Numpy>) -> Vec<Contender> {
     all
 }
 
+/// One call and the time that it took, after the recording was read once.
+fn timed<T>(recording: &[u8], call: impl FnOnce() -> T) -> (T, Duration) {
+    black_box(recording.iter().map(|y| u64::from(*y)).sum::<u64>());
+    let start = Instant::now();
+    let got = call();
+    (got, start.elapsed())
+}
+
 impl Program {
     /// Tells a program in another process of a row, once.
     fn meet(&mut self, row: &Row) {
@@ -78,11 +89,8 @@ impl Program {
     fn search(&mut self, row: &Row, list: &mut [u32]) -> (Answer, Duration) {
         match self {
             Program::Here(program) => {
-                black_box(row.recording.iter().map(|y| u64::from(*y)).sum::<u64>());
                 let (points, recording) = (black_box(&row.points[..]), black_box(row.recording));
-                let start = Instant::now();
-                let got = program(points, row.delta, row.gamma, recording, black_box(list));
-                (got, start.elapsed())
+                timed(recording, || program(points, row.delta, row.gamma, recording, black_box(list)))
             }
             Program::Python(numpy) => {
                 let (total, took) = numpy.search(list).expect("NumPy answers");
@@ -163,15 +171,26 @@ fn head(contenders: &[Contender]) {
     println!("|{}", "---|".repeat(columns.len()));
 }
 
-fn main() {
-    let arguments: Vec<String> = std::env::args().skip(1).collect();
-    let (rounds, command) = arguments.split_first().expect("a number of rounds");
-    let rounds = rounds.parse().expect("a number of rounds");
+/// Prints the table of all searchers; NumPy is in it if there is a command for it.
+fn table(recordings: &Recordings, rounds: usize, command: &[String]) {
     let numpy = (!command.is_empty()).then(|| Numpy::start(command).expect("Python starts"));
     let mut contenders = contenders(numpy);
     head(&contenders);
-    for row in Recordings::new().rows() {
+    for row in recordings.rows() {
         let (total, best) = measure(&row, rounds, &mut contenders);
         print(&row, total, &contenders, &best);
     }
+}
+
+fn main() {
+    let arguments: Vec<String> = std::env::args().skip(1).collect();
+    let alone = arguments.first().is_some_and(|word| word == "first");
+    let (rounds, command) = arguments[usize::from(alone)..].split_first().expect("a number of rounds");
+    let rounds = rounds.parse().expect("a number of rounds");
+    let recordings = Recordings::new();
+    if !alone {
+        table(&recordings, rounds, command);
+        println!();
+    }
+    first::table(&recordings, rounds);
 }

@@ -1,7 +1,7 @@
 //! The rows of the table: which profile is searched for in which recording. They are the same in every run.
 
 pub const READINGS: usize = 1_000_000;
-const WIDE: u32 = 16_320;
+pub const WIDE: u32 = 16_320;
 
 /// One line of the table.
 pub struct Row<'a> {
@@ -49,6 +49,19 @@ impl Recordings {
             rows.extend(self.worst_cases(m));
         }
         rows
+    }
+
+    /// The profile of the random rows, and the random recording with the profile at `place` alone, or nowhere.
+    pub fn planted(&self, m: usize, place: Option<usize>) -> (Vec<u8>, Vec<u8>) {
+        let mut recording = self.random.clone();
+        let middle = &mut recording[READINGS / 2..READINGS / 2 + m];
+        let points = middle.to_vec();
+        // half the range away from every point
+        middle.iter_mut().for_each(|y| *y ^= 128);
+        if let Some(s) = place {
+            recording[s..s + m].copy_from_slice(&points);
+        }
+        (points, recording)
     }
 
     /// Every window a place, with wide tolerances and with none; the last point, then the first, never near; all near with a sum of 2.
