@@ -6,22 +6,24 @@ use mathlib.Core.List.{List, [], _∷_, List·Memᴰ, List·Memᴰ·head, List·
 use Prim.Native.Nat.{ℕ, zero, suc, _≤_, _<_, min}
 use native.Mathlib.Omega.{arith}
 use lib.ListN.{length, getD}
-use Rattle.fit.specs.Place.{Place}
+use Rattle.fit.specs.Place.{Place, isPlace}
 use Rattle.fit.specs.Listing.{Rising, places, overlay}
-use Rattle.fit.specs.Listing.Rising.{next}
+use Rattle.fit.specs.Listing.Rising.{none, next}
 use Rattle.fit.specs.Refusal.{searchRefusal, Accepted}
 use Rattle.fit.specs.Answer.{Sought, soughtOf, lent, outcome, filled, Lent, Answer, Answers}
 use Rattle.fit.specs.declared.answer.Search.{Search}
 use Rattle.fit.proofs.Laws.Refusals.{accepted, none-exactly}
 use Rattle.fit.proofs.Laws.Risings.{rising-min}
-use Rattle.fit.proofs.Laws.Places.{in-places, place-in, places-rise}
-use Rattle.fit.proofs.Laws.Answers.{sought-places, answer-accepted}
+use Rattle.fit.proofs.Laws.Bools.{is-false}
+use Rattle.fit.proofs.Laws.Places.{test-place, in-places, place-in, places-rise}
+use Rattle.fit.proofs.Laws.Answers.{sought-places}
 use Rattle.last.specs.Walk.{lastWalkOf}
 use Rattle.first.specs.First.{numberOf, valueOf, toldOf, upToPlace, firstAnswer}
 use Rattle.first.specs.declared.Spot.{Spot}
 use Rattle.first.specs.declared.Spot.the-variants.{Nowhere, At}
 use Rattle.first.specs.declared.First.{First}
 use Rattle.first.specs.declared.Flat.{Flat}
+use Rattle.first.proofs.Laws.Looking.{noneOf, up-whole}
 
 -- ---- number and value tell the case
 spot-only : (p p′ : Spot) → numberOf p ≡ numberOf p′ → valueOf p ≡ valueOf p′ → p ≡ p′
@@ -68,24 +70,145 @@ up-short p (s ∷ walk) = by-test (p s) (up-short p walk)
     by-test true h = omega arith
     by-test false h = omega (arith, h)
 
+none-all : (p : ℕ → Bool) (walk : List ℕ) → ((s : ℕ) → p s ≡ false) → noneOf p walk
+unfolding noneOf
+none-all p [] h = tt
+none-all p (s ∷ walk) h = (h s, none-all p walk h)
+
+-- ---- the first entry of a list
+front-none : (l : List ℕ) → length l ≡ 0 → getD l 0 0 ≡ 0
+front-none [] e = refl
+front-none (s ∷ l) e = absurd (omega (arith, e))
+
+front-in : (l : List ℕ) → 1 ≤ length l → List·Memᴰ (getD l 0 0) l
+front-in [] h = absurd (omega arith)
+front-in (s ∷ l) h = List·Memᴰ·head refl
+
+-- of a rising one it is the least
+front-least : {b t : ℕ} {l : List ℕ} → Rising b l → List·Memᴰ t l → getD l 0 0 ≤ t
+front-least none m = absurd (List·Memᴰ·not-nil m)
+front-least (next h r) m = ⊎-elim (λ e. omega (arith, e)) (λ n. omega (arith, rising-min r n)) (List·Memᴰ·cases-cons m)
+
+-- and it is laid first into a list that has room for one
+front-laid : (ps entry : List ℕ) → 1 ≤ length ps → 1 ≤ length entry → getD (overlay ps entry) 0 0 ≡ getD ps 0 0
+unfolding overlay
+front-laid [] entry h l = absurd (omega arith)
+front-laid (p ∷ ps) [] h l = absurd (omega arith)
+front-laid (p ∷ ps) (e ∷ entry) h l = refl
+
+-- ---- by number: no more windows than a search along the same walk
+tried-by : (num : ℕ) (t : Sought) (walk : List ℕ) → firstAnswer num t walk .tried ≤ outcome num t (length walk) .tried
+unfolding firstAnswer outcome
+tried-by zero t walk = up-short (t .place) walk
+tried-by (suc num) t walk = omega arith
+
 -- ---- the answer r of a call
 module _ (delta gamma : ℕ) (x y : List ℕ) (r : First)
     (a : toldOf r ≡ firstAnswer (searchRefusal delta gamma x y) (soughtOf delta gamma x y) (lastWalkOf delta gamma x y)) where
   -- refused: the searchers' number, nowhere, and no window
-  pub first-refused : (num : ℕ) → searchRefusal delta gamma x y ≡ suc num → r ≡ record { refusal = suc num; spot = Nowhere; tried = 0 }
-  unfolding firstAnswer
-  first-refused num e =
-      told-only r (record { refusal = suc num; spot = Nowhere; tried = 0 })
-      (rw e at a ∙ (λ i. record { refusal = suc num; found = sym number-nowhere i; place = sym value-nowhere i; tried = 0 }))
+  pub refused-nowhere : (num : ℕ) → searchRefusal delta gamma x y ≡ suc num → r ≡ record { refusal = suc num; spot = Nowhere; tried = 0 }
+  unfolding firstAnswer numberOf valueOf
+  refused-nowhere num e = told-only r (record { refusal = suc num; spot = Nowhere; tried = 0 }) (rw e at a)
 
+  -- a place is told only where the call is not refused
+  at-accepted : (s : ℕ) → r .spot ≡ At s → Accepted delta gamma x y
+  at-accepted s e = by-number (searchRefusal delta gamma x y) refl
+    where
+      by-number : (num : ℕ) → searchRefusal delta gamma x y ≡ num → Accepted delta gamma x y
+      by-number zero n = accepted delta gamma x y n
+      by-number (suc num) n =
+          absurd (let q : At s ≡ Nowhere = sym e ∙ ap (λ (f : First). f .spot) (refused-nowhere num n) in omega (arith, ap numberOf q, number-nowhere, number-at s))
+
+  -- accepted: 0, the number and the value of the first place, and the windows tried
   module _ (ok : Accepted delta gamma x y) where
-    -- accepted
     granted : toldOf r
         ≡ record {
           refusal = 0;
           found = min 1 (length (places delta gamma x y));
           place = getD (places delta gamma x y) 0 0;
-          tried = length (upToPlace (soughtOf delta gamma x y .place) (lastWalkOf delta gamma x y));
+          tried = length (upToPlace (isPlace delta gamma x y) (lastWalkOf delta gamma x y));
         }
     unfolding firstAnswer
     granted = rw (none-exactly delta gamma x y .1 ok, sought-places delta gamma x y) at a
+
+    number-is : numberOf (r .spot) ≡ min 1 (length (places delta gamma x y))
+    number-is = ap (λ (f : Flat). f .found) granted
+
+    value-is : valueOf (r .spot) ≡ getD (places delta gamma x y) 0 0
+    value-is = ap (λ (f : Flat). f .place) granted
+
+    -- "none exactly when the total is 0"
+    pub nowhere-exactly : (r .spot ≡ Nowhere) ↔ (length (places delta gamma x y) ≡ 0)
+    nowhere-exactly = (
+      λ e. omega (arith, number-is, ap numberOf e, number-nowhere),
+      λ z. spot-only (r .spot) Nowhere (omega (arith, number-is, number-nowhere)) (value-is ∙ front-none (places delta gamma x y) z ∙ sym value-nowhere),
+    )
+
+    -- "the first entry of the full list"
+    pub at-exactly : (s : ℕ) → (r .spot ≡ At s) ↔ ((1 ≤ length (places delta gamma x y)) × (getD (places delta gamma x y) 0 0 ≡ s))
+    at-exactly s = (
+      λ e. (omega (arith, number-is, ap numberOf e, number-at s), sym value-is ∙ ap valueOf e ∙ value-at s),
+      λ h. spot-only (r .spot) (At s) (omega (arith, number-is, h .0, number-at s)) (value-is ∙ h .1 ∙ sym (value-at s)),
+    )
+
+    -- nowhere: no window is a place, and the whole walk was tried
+    pub nowhere-no-place : r .spot ≡ Nowhere → (t : ℕ) → Place delta gamma x y t → ⊥
+    nowhere-no-place e t p = omega (arith, nowhere-exactly .0 e, in-some (place-in delta gamma x y t p))
+      where
+        in-some : {t : ℕ} {l : List ℕ} → List·Memᴰ t l → 1 ≤ length l
+        in-some {l = []} m = absurd (List·Memᴰ·not-nil m)
+        in-some {l = s ∷ l} m = omega arith
+
+    pub nowhere-whole : r .spot ≡ Nowhere → r .tried ≡ length (lastWalkOf delta gamma x y)
+    nowhere-whole e =
+        ap (λ (f : Flat). f .tried) granted
+        ∙ ap length
+        (up-whole (isPlace delta gamma x y) (lastWalkOf delta gamma x y)
+        (none-all (isPlace delta gamma x y) (lastWalkOf delta gamma x y)
+        (λ s. is-false (isPlace delta gamma x y s) (λ t. nowhere-no-place e s (test-place delta gamma x y s t)))))
+
+    -- of every searcher, that is not refused either
+    module _ (tried : ℕ) (entry final : List ℕ) (q : Search) (b : Answer 0 (soughtOf delta gamma x y) tried (lent entry) q (lent final)) where
+      total-is : q .total ≡ length (places delta gamma x y)
+      unfolding outcome
+      total-is = ap (λ (f : Search). f .total) (b .result) ∙ ap length (sought-places delta gamma x y)
+
+      list-is : final ≡ overlay (places delta gamma x y) entry
+      unfolding filled
+      list-is = ap (λ (l : Lent). l .list) (b .lists) ∙ ap (λ (ps : List ℕ). overlay ps entry) (sought-places delta gamma x y)
+
+      -- none exactly when its total is 0
+      pub nowhere-total : (r .spot ≡ Nowhere) ↔ (q .total ≡ 0)
+      nowhere-total = (λ e. total-is ∙ nowhere-exactly .0 e, λ z. nowhere-exactly .1 (sym total-is ∙ z))
+
+      -- else the spot is the first entry of the list that it fills, if that has one
+      pub spot-listed : (s : ℕ) → r .spot ≡ At s → 1 ≤ length entry → getD final 0 0 ≡ s
+      spot-listed s e room =
+          let h = at-exactly s .0 e in
+          ap (λ (l : List ℕ). getD l 0 0) list-is ∙ front-laid (places delta gamma x y) entry (h .0) room ∙ h .1
+
+  -- a place is told: it is one, and no place lies before it
+  pub at-place : (s : ℕ) → r .spot ≡ At s → Place delta gamma x y s
+  at-place s e =
+      let h = at-exactly (at-accepted s e) s .0 e in
+      rw (h .1) at (in-places delta gamma x y (front-in (places delta gamma x y) (h .0)))
+
+  pub at-least : (s : ℕ) → r .spot ≡ At s → (t : ℕ) → Place delta gamma x y t → s ≤ t
+  at-least s e t p =
+      let h = at-exactly (at-accepted s e) s .0 e in
+      rw (h .1) at (front-least (places-rise delta gamma x y) (place-in delta gamma x y t p))
+
+  -- beside last's own answer: never more windows, and as many where there is no place
+  module _ (entry final : Lent) (q : Search) (b : Answers delta gamma x y (length (lastWalkOf delta gamma x y)) entry q final) where
+    pub tried-most : r .tried ≤ q .tried
+    tried-most =
+        omega (
+          arith,
+          ap (λ (f : Flat). f .tried) a,
+          ap (λ (f : Search). f .tried) (b .result),
+          tried-by (searchRefusal delta gamma x y) (soughtOf delta gamma x y) (lastWalkOf delta gamma x y),
+        )
+
+    pub tried-all : Accepted delta gamma x y → r .spot ≡ Nowhere → r .tried ≡ q .tried
+    unfolding outcome
+    tried-all ok e = nowhere-whole ok e ∙ sym (ap (λ (f : Search). f .tried) (rw (none-exactly delta gamma x y .1 ok) at (b .result)))

@@ -55,7 +55,7 @@ module _ (p : ℕ → Bool) where
   unfolding those
   those-none l n = ap (those p) (sym (append-nil l)) ∙ those-past l [] n
 
-  up-whole : (l : List ℕ) → noneOf p l → upToPlace p l ≡ l
+  pub up-whole : (l : List ℕ) → noneOf p l → upToPlace p l ≡ l
   unfolding upToPlace
   up-whole l n = ap (upToPlace p) (sym (append-nil l)) ∙ up-past l [] n ∙ append-nil l
 

@@ -72,12 +72,11 @@ loop-again : tie.Need-loop-again Inv-loop μ-loop
 loop-again c =
     let missed = c .before in
     let at-test = missed .before .before in
-    let inv = at-test .before .loop .inv in
-    let at = at-test .loop-test .taken in (
+    let inv = at-test .before .loop .inv in (
       inv .0,
-      stands-next _ _ _ _ _ _ _ (inv .1) at _ (c .tried-after .ensures),
-      looked-on _ _ _ _ _ (inv .2) (stands-try _ _ _ _ _ _ _ (inv .1) at _ (c .tried-after .ensures)) (sym (missed .before .is-place .ensures) ∙ missed .if1 .left)
-          (omega (arith, inv .1 .from, stands-forth _ _ _ _ _ _ _ (inv .1) at _ (c .tried-after .ensures))),
+      stands-next _ _ _ _ _ _ _ (inv .1) (omega arith) _ (c .tried-after .ensures),
+      looked-on _ _ _ _ _ (inv .2) (stands-try _ _ _ _ _ _ _ (inv .1) (omega arith) _ (c .tried-after .ensures)) (sym (missed .before .is-place .ensures) ∙ missed .if1 .left)
+          (omega (arith, inv .1 .from, stands-forth _ _ _ _ _ _ _ (inv .1) (omega arith) _ (c .tried-after .ensures))),
     )
 
 returns-2 : tie.Need-returns-2 Inv-loop μ-loop
