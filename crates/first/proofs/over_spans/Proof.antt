@@ -5,7 +5,6 @@ use native.Mathlib.Omega.{arith}
 use lib.ListN.{length}
 use Rattle.fit.specs.Rule.{isPlaceBy, nearBy}
 use Rattle.fit.specs.Spans.{ruleIn, Ready}
-use Rattle.fit.specs.Answer.{soughtBy}
 use Rattle.fit.proofs.Laws.Rules.{by-below}
 use Rattle.last.specs.Walk.{lastWalk}
 use Rattle.last.proofs.Laws.Walks.{left, last-rises, last-has}
