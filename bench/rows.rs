@@ -56,7 +56,7 @@ impl Recordings {
         let mut recording = self.random.clone();
         let middle = &mut recording[READINGS / 2..READINGS / 2 + m];
         let points = middle.to_vec();
-        // half the range away from every point
+        // each reading half the range away from its point
         middle.iter_mut().for_each(|y| *y ^= 128);
         if let Some(s) = place {
             recording[s..s + m].copy_from_slice(&points);

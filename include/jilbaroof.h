@@ -43,8 +43,8 @@ typedef struct {
 /* What jilbaroof_first answers. */
 typedef struct {
     uint32_t refusal; /* 0, or why the call was refused */
-    uint32_t found;   /* 1 where there is a place, and 0 where there is none */
-    size_t place;     /* the first place; 0 where there is none, so look at found first */
+    uint32_t found;   /* 1 where a place is told; 0 where there is none, and on refusal */
+    size_t place;     /* the first place; 0 where found is 0, so look at found first */
     size_t tried;     /* how many windows were tried */
 } jilbaroof_first_place;
 
@@ -79,7 +79,7 @@ jilbaroof_search jilbaroof_maximal(const uint8_t *points, size_t m, uint32_t del
                                    const uint8_t *recording, size_t n, uint32_t *list, size_t room);
 
 /* Is there a place at all? Goes as jilbaroof_last does, stops at the first place, and lists nothing. The place is the first entry of a
- * searcher's list, and there is none exactly where a searcher's total is 0. `tried` counts the windows that jilbaroof_last tries up to and
+ * searcher's list, and there is none exactly where the total of a search that is not refused is 0. `tried` counts the windows that jilbaroof_last tries up to and
  * including that place; where there is none, all that it tries. */
 jilbaroof_first_place jilbaroof_first(const uint8_t *points, size_t m, uint32_t delta, uint32_t gamma,
                                       const uint8_t *recording, size_t n);

@@ -58,7 +58,7 @@ mod boundary {
 
     searchers! { jilbaroof_plain jilbaroof_packed jilbaroof_last jilbaroof_skip jilbaroof_maximal }
 
-    /// `First` as C has it: `found` is 1 where there is a place, and else it and `place` are 0.
+    /// `First` as C has it: `found` is 1 where a place is told; else, and on refusal, it and `place` are 0.
     #[repr(C)]
     pub struct Flat {
         pub refusal: u32,

@@ -1,4 +1,4 @@
-// The boundary to C and Rust: one function for each searcher and each question, which calls it, with its contract.
+// The boundary to C and Rust: a function for each searcher and each question, with the contract of what it calls; `first` is told in numbers.
 // include/jilbaroof.h declares these functions for C, rust/jilbaroof.rs wraps them for Rust.
 use first::Flat;
 use fit::Search;

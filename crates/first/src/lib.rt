@@ -1,13 +1,9 @@
-// Is there one at all? The first place, or none: it goes last's walk, and stops there.
+// Is there one at all? The first place, or none: it goes along last's walk, and stops there.
 ghost use mathlib.Core.Path.{_≡_};
-ghost use lib.ListN.{length};
-ghost use Rattle.fit.specs.Rule.{nearBy};
 ghost use Rattle.fit.specs.Refusal.{searchRefusal};
-ghost use Rattle.fit.specs.Spans.{ruleIn, Ready};
+ghost use Rattle.fit.specs.Spans.{ruleIn};
 ghost use Rattle.fit.specs.Answer.{soughtBy, soughtOf};
-ghost use Rattle.jumps.specs.Jumps.{lastJump};
-ghost use Rattle.tables.specs.Holding.{Holds};
-ghost use Rattle.last.specs.Walk.{lastWalk, lastWalkOf, Safe};
+ghost use Rattle.last.specs.Walk.{lastWalkOf, walkIn, Walkable};
 ghost use Rattle.first.specs.First.{toldOf, firstAnswer};
 
 // Where the first place is.
@@ -23,7 +19,7 @@ pub struct First {
     pub tried: usize,
 }
 
-// The same in numbers alone: `found` is 1 where there is a place, and else it and `place` are 0.
+// The same in numbers alone: `found` is 1 where a place is told; else, and where the call is refused, it and `place` are 0.
 #[repr(C)]
 pub struct Flat {
     pub refusal: u32,
@@ -47,34 +43,29 @@ pub fn search(points: &[u8], delta: u32, gamma: u32, recording: &[u8]) -> First
             tried: 0,
         };
     }
-    let spans = prepared.spans;
-    let table = prepared.table;
     over_spans(
-        &spans,
+        &prepared.spans,
         points.len(),
         gamma,
-        &table,
+        &prepared.table,
         prepared.after,
         recording,
     )
 }
 
 // The same for m points compiled to spans, with the table of their last-reading jumps and the jump after a tried window.
-fn over_spans(
-    spans: &[u16],
+fn over_spans<'a>(
+    spans: &'a [u16],
     m: usize,
     gamma: u32,
-    table: &[u8; 256],
+    table: &'a [u8; 256],
     after: usize,
     recording: &[u8],
 ) -> First
-    requires { ⌜ Ready (now spans) m gamma (length (now recording)) ⌝ }
-    requires { ⌜
-        Holds (lastJump (nearBy (ruleIn (now spans)) gamma) m) 256 256 (now table)
-        × Safe (ruleIn (now spans)) m gamma (λ a. after) (now recording) ⌝ }
+    requires { ⌜ Walkable (now spans) (now table) m gamma after (now recording) ⌝ }
     ensures { λ r. ⌜
         toldOf r ≡ firstAnswer 0 (soughtBy (ruleIn (now (spans .entry))) m gamma (now (recording .entry)))
-        (lastWalk (nearBy (ruleIn (now (spans .entry))) gamma) m (λ a. after) (now (recording .entry))) ⌝ }
+        (walkIn (now (spans .entry)) m gamma after (now (recording .entry))) ⌝ }
 {
     let mut tried = 0;
     let mut q = last::tried_from(table, recording, m - 1);

@@ -17,7 +17,11 @@ pub record GoesBy (delta gamma : ℕ) (x : List ℕ) (p : Prepared) : Type 0 whe
   pub table : Holds (lastJump (nearBy (ruleIn (p .spans)) gamma) (length x)) 256 256 (p .table)
   pub after : p .after ≡ afterJump (dOf delta gamma) x
 
--- by the refusal's number: that, or the number and zeros
+-- refused by a number: that, and zeros
+abbrev pub unprepared : ℕ → Prepared
+unprepared num = record { refusal = num; spans = replicate 256 0; table = replicate 256 0; after = 0 }
+
+-- by the refusal's number
 unfoldable pub PreparedBy : ℕ → ℕ → ℕ → List ℕ → Prepared → Type 0
 PreparedBy zero delta gamma x p = GoesBy delta gamma x p
-PreparedBy (suc num) delta gamma x p = p ≡ record { refusal = suc num; spans = replicate 256 0; table = replicate 256 0; after = 0 }
+PreparedBy (suc num) delta gamma x p = p ≡ unprepared (suc num)

@@ -41,7 +41,8 @@ pub fn prepare(points: &[u8], delta: u32, gamma: u32, recording: &[u8]) -> Prepa
     }
 }
 
-// Where the last reading stands of the window that is tried next, from a window whose last reading stands at `from`; or past the end.
+// Where the walk tries its next window, told by that window's last reading: at `from` or behind it, or past the end of the recording. Told by
+// its last reading, a step is two reads and a sum, and nothing else is waited for.
 pub fn tried_from(table: &[u8; 256], recording: &[u8], from: usize) -> usize
     ensures { λ r. ⌜ r ≡ seek (now (table .entry)) (now (recording .entry)) from ⌝ }
 {
@@ -56,7 +57,7 @@ pub fn tried_from(table: &[u8; 256], recording: &[u8], from: usize) -> usize
     q
 }
 
-// The same, past a tried window whose last reading stands at q.
+// The same after a tried window whose last reading stands at q: at q + after or behind it.
 pub fn tried_after(table: &[u8; 256], after: usize, recording: &[u8], q: usize) -> usize
     requires { ⌜ (q < length (now recording)) × (after ≤ maxPoints) ⌝ }
     ensures { λ r. ⌜ r ≡ seek (now (table .entry)) (now (recording .entry)) (q + after) ⌝ }

@@ -2,28 +2,30 @@
 use mathlib.Core.Path.{_≡_, refl, sym, ap, _∙_}
 use mathlib.Core.Bool.{Bool, true, false, cond}
 use mathlib.Core.Logic.{⊎-elim, _↔_}
-use mathlib.Core.List.{List, [], _∷_, List·Memᴰ, List·Memᴰ·head, List·Memᴰ·not-nil, List·Memᴰ·cases-cons}
-use Prim.Native.Nat.{ℕ, zero, suc, _≤_, min}
+use mathlib.Core.List.{List, [], _∷_, _++_, List·Memᴰ, List·Memᴰ·head, List·Memᴰ·not-nil, List·Memᴰ·cases-cons}
+use Prim.Native.Nat.{ℕ, zero, suc, _+_, _≤_, min}
 use native.Mathlib.Omega.{arith}
 use lib.ListN.{length, getD}
 use Rattle.fit.specs.Place.{Place, isPlace}
 use Rattle.fit.specs.Listing.{Rising, places, overlay}
 use Rattle.fit.specs.Listing.Rising.{none, next}
 use Rattle.fit.specs.Refusal.{searchRefusal, Accepted}
-use Rattle.fit.specs.Answer.{Sought, soughtOf, lent, outcome, filled, Lent, Answer, Answers}
+use Rattle.fit.specs.Answer.{soughtOf, Lent, lent, Answer, Answers}
 use Rattle.fit.specs.declared.answer.Search.{Search}
-use Rattle.fit.proofs.Laws.Refusals.{accepted, none-exactly}
-use Rattle.fit.proofs.Laws.Risings.{rising-min}
 use Rattle.fit.proofs.Laws.Bools.{is-false}
-use Rattle.fit.proofs.Laws.Places.{test-place, in-places, place-in, places-rise}
-use Rattle.fit.proofs.Laws.Answers.{sought-places}
+use Rattle.fit.proofs.Laws.Refusals.{accepted, none-exactly}
+use Rattle.fit.proofs.Laws.Listings.{overlay-first}
+use Rattle.fit.proofs.Laws.Risings.{rising-min, rising-first}
+use Rattle.fit.proofs.Laws.Places.{place-test, test-place, in-places, place-in, places-rise}
+use Rattle.fit.proofs.Laws.Answers.{sought-places, answer-accepted, answer-refused, answer-done}
 use Rattle.last.specs.Walk.{lastWalkOf}
+use Rattle.last.proofs.Laws.Ordinary.{walk-rises, walk-has}
 use Rattle.first.specs.First.{numberOf, valueOf, toldOf, upToPlace, firstAnswer}
 use Rattle.first.specs.declared.Spot.{Spot}
 use Rattle.first.specs.declared.Spot.the-variants.{Nowhere, At}
 use Rattle.first.specs.declared.First.{First}
 use Rattle.first.specs.declared.Flat.{Flat}
-use Rattle.first.proofs.Laws.Looking.{noneOf, up-whole}
+use Rattle.first.proofs.Laws.Looking.{noneOf, up-whole, up-to}
 
 -- ---- number and value tell the case
 spot-only : (p p′ : Spot) → numberOf p ≡ numberOf p′ → valueOf p ≡ valueOf p′ → p ≡ p′
@@ -84,23 +86,34 @@ front-in : (l : List ℕ) → 1 ≤ length l → List·Memᴰ (getD l 0 0) l
 front-in [] h = absurd (omega arith)
 front-in (s ∷ l) h = List·Memᴰ·head refl
 
--- of a rising one it is the least
-front-least : {b t : ℕ} {l : List ℕ} → Rising b l → List·Memᴰ t l → getD l 0 0 ≤ t
-front-least none m = absurd (List·Memᴰ·not-nil m)
-front-least (next h r) m = ⊎-elim (λ e. omega (arith, e)) (λ n. omega (arith, rising-min r n)) (List·Memᴰ·cases-cons m)
+-- ---- the walk up to the window s, the first that passes, which is the last of so many windows that were tried
+pub record UpTo (p : ℕ → Bool) (walk : List ℕ) (s tried : ℕ) : Type 0 where
+  pub before : List ℕ
+  pub behind : List ℕ
+  pub split : before ++ (s ∷ behind) ≡ walk
+  pub none-before : noneOf p before
+  pub count : tried ≡ length before + 1
 
--- and it is laid first into a list that has room for one
-front-laid : (ps entry : List ℕ) → 1 ≤ length ps → 1 ≤ length entry → getD (overlay ps entry) 0 0 ≡ getD ps 0 0
-unfolding overlay
-front-laid [] entry h l = absurd (omega arith)
-front-laid (p ∷ ps) [] h l = absurd (omega arith)
-front-laid (p ∷ ps) (e ∷ entry) h l = refl
-
--- ---- by number: no more windows than a search along the same walk
-tried-by : (num : ℕ) (t : Sought) (walk : List ℕ) → firstAnswer num t walk .tried ≤ outcome num t (length walk) .tried
-unfolding firstAnswer outcome
-tried-by zero t walk = up-short (t .place) walk
-tried-by (suc num) t walk = omega arith
+-- on a rising walk that has s
+reaches : (p : ℕ → Bool) (s : ℕ) {b : ℕ} {walk : List ℕ} → p s ≡ true → ((t : ℕ) → p t ≡ true → s ≤ t) → Rising b walk → List·Memᴰ s walk
+    → UpTo p walk s (length (upToPlace p walk))
+unfolding noneOf
+reaches p s hit least none m = absurd (List·Memᴰ·not-nil m)
+reaches p s hit least (next {a = a} {l = l} h r) m =
+    ⊎-elim
+    (λ e. let split : _≡_ {A = List ℕ} (s ∷ l) (a ∷ l) = ap (λ (k : ℕ). k ∷ l) e in
+    record { before = []; behind = l; split = split; none-before = tt; count = up-to p [] l s split tt hit })
+    (λ n. let u = reaches p s hit least r n in
+    let miss : p a ≡ false = is-false (p a) (λ t. omega (arith, least a t, rising-min r n)) in
+    let split : (a ∷ u .before) ++ (s ∷ u .behind) ≡ a ∷ l = ap (λ (k : List ℕ). a ∷ k) (u .split) in
+    record {
+      before = a ∷ u .before;
+      behind = u .behind;
+      split = split;
+      none-before = (miss, u .none-before);
+      count = up-to p (a ∷ u .before) (u .behind) s split (miss, u .none-before) hit;
+    })
+    (List·Memᴰ·cases-cons m)
 
 -- ---- the answer r of a call
 module _ (delta gamma : ℕ) (x y : List ℕ) (r : First)
@@ -167,48 +180,62 @@ module _ (delta gamma : ℕ) (x y : List ℕ) (r : First)
         (none-all (isPlace delta gamma x y) (lastWalkOf delta gamma x y)
         (λ s. is-false (isPlace delta gamma x y s) (λ t. nowhere-no-place e s (test-place delta gamma x y s t)))))
 
-    -- of every searcher, that is not refused either
-    module _ (tried : ℕ) (entry final : List ℕ) (q : Search) (b : Answer 0 (soughtOf delta gamma x y) tried (lent entry) q (lent final)) where
+    -- beside a searcher's answer, by whatever number, that is not refused
+    module _ (num tried : ℕ) (entry final : Lent) (q : Search) (b : Answer num (soughtOf delta gamma x y) tried entry q final) (z : q .refusal ≡ 0) where
       total-is : q .total ≡ length (places delta gamma x y)
-      unfolding outcome
-      total-is = ap (λ (f : Search). f .total) (b .result) ∙ ap length (sought-places delta gamma x y)
-
-      list-is : final ≡ overlay (places delta gamma x y) entry
-      unfolding filled
-      list-is = ap (λ (l : Lent). l .list) (b .lists) ∙ ap (λ (ps : List ℕ). overlay ps entry) (sought-places delta gamma x y)
+      total-is = answer-done num _ tried entry q final b z .total ∙ ap length (sought-places delta gamma x y)
 
       -- none exactly when its total is 0
       pub nowhere-total : (r .spot ≡ Nowhere) ↔ (q .total ≡ 0)
-      nowhere-total = (λ e. total-is ∙ nowhere-exactly .0 e, λ z. nowhere-exactly .1 (sym total-is ∙ z))
+      nowhere-total = (λ e. total-is ∙ nowhere-exactly .0 e, λ n. nowhere-exactly .1 (sym total-is ∙ n))
 
-      -- else the spot is the first entry of the list that it fills, if that has one
-      pub spot-listed : (s : ℕ) → r .spot ≡ At s → 1 ≤ length entry → getD final 0 0 ≡ s
-      spot-listed s e room =
-          let h = at-exactly s .0 e in
-          ap (λ (l : List ℕ). getD l 0 0) list-is ∙ front-laid (places delta gamma x y) entry (h .0) room ∙ h .1
+  -- a place is told
+  module _ (s : ℕ) (e : r .spot ≡ At s) where
+    ok-at : Accepted delta gamma x y
+    ok-at = at-accepted s e
 
-  -- a place is told: it is one, and no place lies before it
-  pub at-place : (s : ℕ) → r .spot ≡ At s → Place delta gamma x y s
-  at-place s e =
-      let h = at-exactly (at-accepted s e) s .0 e in
-      rw (h .1) at (in-places delta gamma x y (front-in (places delta gamma x y) (h .0)))
+    first-is : getD (places delta gamma x y) 0 0 ≡ s
+    first-is = at-exactly ok-at s .0 e .1
 
-  pub at-least : (s : ℕ) → r .spot ≡ At s → (t : ℕ) → Place delta gamma x y t → s ≤ t
-  at-least s e t p =
-      let h = at-exactly (at-accepted s e) s .0 e in
-      rw (h .1) at (front-least (places-rise delta gamma x y) (place-in delta gamma x y t p))
+    -- it is one, and no place lies before it
+    pub at-place : Place delta gamma x y s
+    at-place = rw first-is at (in-places delta gamma x y (front-in (places delta gamma x y) (at-exactly ok-at s .0 e .0)))
+
+    pub at-least : (t : ℕ) → Place delta gamma x y t → s ≤ t
+    at-least t p = rw first-is at (rising-first (places-rise delta gamma x y) (place-in delta gamma x y t p))
+
+    -- it is the first entry of the list that a searcher fills, if that has one
+    pub spot-listed : (num tried : ℕ) (entry final : Lent) (q : Search) → Answer num (soughtOf delta gamma x y) tried entry q final → q .refusal ≡ 0
+        → 1 ≤ length (entry .list) → getD (final .list) 0 0 ≡ s
+    spot-listed num tried entry final q b z room =
+        ap (λ (l : List ℕ). getD l 0 0)
+        (answer-done num _ tried entry q final b z .list ∙ ap (λ (ps : List ℕ). overlay ps (entry .list)) (sought-places delta gamma x y))
+        ∙ overlay-first (places delta gamma x y) (entry .list) (at-exactly ok-at s .0 e .0) room ∙ first-is
+
+    -- "up to and including that place": it is the last window of the walk that was tried
+    pub at-tried : UpTo (isPlace delta gamma x y) (lastWalkOf delta gamma x y) s (r .tried)
+    at-tried =
+        rw (ap (λ (f : Flat). f .tried) (granted ok-at))
+        (reaches (isPlace delta gamma x y) s (place-test delta gamma x y s at-place) (λ t h. at-least t (test-place delta gamma x y t h))
+        (walk-rises delta gamma x y (ok-at .asked)) (walk-has delta gamma x y (ok-at .asked) s at-place))
 
   -- beside last's own answer: never more windows, and as many where there is no place
-  module _ (entry final : Lent) (q : Search) (b : Answers delta gamma x y (length (lastWalkOf delta gamma x y)) entry q final) where
+  module _ (entry final : List ℕ) (q : Search) (b : Answers delta gamma x y (length (lastWalkOf delta gamma x y)) (lent entry) q (lent final)) where
+    by-number : (C : Type 0) → ((ok : Accepted delta gamma x y) → r .tried ≡ length (upToPlace (isPlace delta gamma x y) (lastWalkOf delta gamma x y))
+        → q .tried ≡ length (lastWalkOf delta gamma x y) → C) → (r .tried ≡ 0 → q .tried ≡ 0 → C) → C
+    by-number C f g = go (searchRefusal delta gamma x y) refl
+      where
+        go : (num : ℕ) → searchRefusal delta gamma x y ≡ num → C
+        go zero e =
+            let ok = accepted delta gamma x y e in
+            f ok (ap (λ (k : Flat). k .tried) (granted ok)) (ap (λ (k : Search). k .tried) (answer-accepted delta gamma x y _ entry final q b ok .0))
+        go (suc num) e =
+            g (ap (λ (k : First). k .tried) (refused-nowhere num e)) (ap (λ (k : Search). k .tried) (answer-refused delta gamma x y _ entry final q b num e .0))
+
     pub tried-most : r .tried ≤ q .tried
     tried-most =
-        omega (
-          arith,
-          ap (λ (f : Flat). f .tried) a,
-          ap (λ (f : Search). f .tried) (b .result),
-          tried-by (searchRefusal delta gamma x y) (soughtOf delta gamma x y) (lastWalkOf delta gamma x y),
-        )
+        by-number (r .tried ≤ q .tried) (λ ok m n. omega (arith, m, n, up-short (isPlace delta gamma x y) (lastWalkOf delta gamma x y)))
+        (λ m n. omega (arith, m, n))
 
-    pub tried-all : Accepted delta gamma x y → r .spot ≡ Nowhere → r .tried ≡ q .tried
-    unfolding outcome
-    tried-all ok e = nowhere-whole ok e ∙ sym (ap (λ (f : Search). f .tried) (rw (none-exactly delta gamma x y .1 ok) at (b .result)))
+    pub tried-all : r .spot ≡ Nowhere → r .tried ≡ q .tried
+    tried-all e = by-number (r .tried ≡ q .tried) (λ ok m n. nowhere-whole ok e ∙ sym n) (λ m n. m ∙ sym n)

@@ -1,18 +1,21 @@
 -- Laws of looking for the first place along a walk, as long as no window is one. Assumes nothing.
 use mathlib.Core.Path.{_≡_, refl, sym, ap, _∙_}
 use mathlib.Core.Bool.{Bool, true, false}
-use mathlib.Core.List.{List, [], _∷_, _++_, append-assoc, append-nil, List·Memᴰ}
+use mathlib.Core.Logic.{⊎-elim}
+use mathlib.Core.List.{List, [], _∷_, _++_, append-assoc, append-nil, List·Memᴰ, List·Memᴰ·head, List·Memᴰ·not-nil, List·Memᴰ·cases-cons}
 use Prim.Native.Nat.{ℕ, zero, suc, _+_, _≤_, _<_, min}
 use native.Mathlib.Omega.{arith}
 use lib.ListN.{length, getD, length-append}
-use Rattle.fit.specs.Rule.{nearBy}
-use Rattle.fit.specs.Listing.{Rising, those}
+use Rattle.fit.specs.Listing.{those}
 use Rattle.fit.specs.Refusal.{searchRefusal}
 use Rattle.fit.specs.Spans.{ruleIn}
 use Rattle.fit.specs.Answer.{Sought, soughtBy, soughtOf, all}
+use Rattle.fit.proofs.Laws.Bools.{not-both}
 use Rattle.fit.proofs.Laws.Refusals.{none-exactly}
-use Rattle.fit.proofs.Laws.Risings.{finds-all}
-use Rattle.last.specs.Walk.{lastWalk, lastWalkOf}
+use Rattle.fit.proofs.Laws.Risings.{in-those}
+use Rattle.fit.proofs.Laws.Alongs.{those-append, those-front}
+use Rattle.fit.proofs.Laws.Compiled.{compiled-sought}
+use Rattle.last.specs.Walk.{lastWalkOf, walkIn}
 use Rattle.last.specs.declared.walk.Prepared.{Prepared}
 use Rattle.last.proofs.Laws.Ordinary.{Going}
 use Rattle.first.specs.First.{numberOf, valueOf, toldOf, upToPlace, firstAnswer}
@@ -30,34 +33,42 @@ module _ (p : ℕ → Bool) where
   none-more [] s n e = (e, tt)
   none-more (a ∷ l) s n e = (n .0, none-more l s (n .1) e)
 
-  -- windows that do not pass are none of those that do, and are tried on the way
-  those-past : (l rest : List ℕ) → noneOf p l → those p (l ++ rest) ≡ those p rest
-  unfolding noneOf those
-  those-past [] rest n = refl
-  those-past (s ∷ l) rest n = rw (n .0) (those-past l rest (n .1))
+  -- windows that do not pass are none of those that do
+  none-in : (l : List ℕ) → noneOf p l → (s : ℕ) → List·Memᴰ s l → p s ≡ false
+  unfolding noneOf
+  none-in [] n s m = absurd (List·Memᴰ·not-nil m)
+  none-in (a ∷ l) n s m = ⊎-elim (λ e. ap p e ∙ n .0) (λ k. none-in l (n .1) s k) (List·Memᴰ·cases-cons m)
 
+  those-none : (l : List ℕ) → noneOf p l → those p l ≡ []
+  those-none l n = empty (those p l) (λ s m. let h = in-those p l m in not-both (h .1) (none-in l n s (h .0)))
+    where
+      empty : (k : List ℕ) → ((s : ℕ) → List·Memᴰ s k → ⊥) → k ≡ []
+      empty [] h = refl
+      empty (s ∷ k) h = absurd (h s (List·Memᴰ·head refl))
+
+  those-past : (l rest : List ℕ) → noneOf p l → those p (l ++ rest) ≡ those p rest
+  those-past l rest n = those-append p l rest ∙ ap (λ (k : List ℕ). k ++ those p rest) (those-none l n)
+
+  -- they are tried on the way
   up-past : (l rest : List ℕ) → noneOf p l → upToPlace p (l ++ rest) ≡ l ++ upToPlace p rest
   unfolding noneOf upToPlace
   up-past [] rest n = refl
   up-past (s ∷ l) rest n = rw (n .0) (ap (λ (t : List ℕ). s ∷ t) (up-past l rest (n .1)))
 
-  -- the first that passes
-  those-at : (s : ℕ) (rest : List ℕ) → p s ≡ true → those p (s ∷ rest) ≡ s ∷ those p rest
-  unfolding those
-  those-at s rest e = rw e
+  pub up-whole : (l : List ℕ) → noneOf p l → upToPlace p l ≡ l
+  unfolding upToPlace
+  up-whole l n = ap (upToPlace p) (sym (append-nil l)) ∙ up-past l [] n ∙ append-nil l
 
+  -- and the first that passes is the last that is tried
   up-at : (s : ℕ) (rest : List ℕ) → p s ≡ true → upToPlace p (s ∷ rest) ≡ s ∷ []
   unfolding upToPlace
   up-at s rest e = rw e
 
-  -- none passes
-  those-none : (l : List ℕ) → noneOf p l → those p l ≡ []
-  unfolding those
-  those-none l n = ap (those p) (sym (append-nil l)) ∙ those-past l [] n
-
-  pub up-whole : (l : List ℕ) → noneOf p l → upToPlace p l ≡ l
-  unfolding upToPlace
-  up-whole l n = ap (upToPlace p) (sym (append-nil l)) ∙ up-past l [] n ∙ append-nil l
+  pub up-to : (before behind : List ℕ) (s : ℕ) {walk : List ℕ} → before ++ (s ∷ behind) ≡ walk → noneOf p before → p s ≡ true
+      → length (upToPlace p walk) ≡ length before + 1
+  up-to before behind s e n hit =
+      ap (λ (l : List ℕ). length (upToPlace p l)) (sym e)
+      ∙ ap length (up-past before (s ∷ behind) n ∙ ap (λ (l : List ℕ). before ++ l) (up-at s behind hit)) ∙ length-append before (s ∷ [])
 
 -- the windows of the walk before `rest` were tried, `bound` of them at most, and none of them passes
 pub record Looked (p : ℕ → Bool) (walk rest : List ℕ) (bound tried : ℕ) : Type 0 where
@@ -81,12 +92,8 @@ looked-on p s bound bound′ tried {rest′ = rest′} f e miss h = record {
   room = omega (arith, f .room);
 }
 
--- ---- the answer, on a walk that rises and has all that is sought among its windows
-module _ (t : Sought) (walk : List ℕ) (below : (s : ℕ) → t .place s ≡ true → s < t .count) (rises : Rising 0 walk)
-    (has : (s : ℕ) → t .place s ≡ true → List·Memᴰ s walk) where
-  all-those : all t ≡ those (t .place) walk
-  all-those = sym (finds-all (t .place) (t .count) walk below rises has)
-
+-- ---- the answer, on a walk that has all that is sought among its windows
+module _ (t : Sought) (walk : List ℕ) (finds : those (t .place) walk ≡ all t) where
   pub first-at : (s bound tried : ℕ) {rest rest′ : List ℕ} → Looked (t .place) walk rest bound tried → rest ≡ s ∷ rest′ → t .place s ≡ true
       → toldOf (record { refusal = 0; spot = At s; tried = tried + 1 }) ≡ firstAnswer 0 t walk
   unfolding firstAnswer numberOf valueOf
@@ -94,12 +101,10 @@ module _ (t : Sought) (walk : List ℕ) (below : (s : ℕ) → t .place s ≡ tr
       let p = t .place in
       let split : f .done ++ (s ∷ rest′) ≡ walk = ap (λ (l : List ℕ). f .done ++ l) (sym e) ∙ f .split in
       let listed : all t ≡ s ∷ those p rest′ =
-      all-those ∙ ap (those p) (sym split) ∙ those-past p (f .done) (s ∷ rest′) (f .none) ∙ those-at p s rest′ hit in
-      let windows : upToPlace p walk ≡ f .done ++ (s ∷ []) =
-      ap (upToPlace p) (sym split) ∙ up-past p (f .done) (s ∷ rest′) (f .none) ∙ ap (λ (l : List ℕ). f .done ++ l) (up-at p s rest′ hit) in
+      sym finds ∙ ap (those p) (sym split) ∙ those-past p (f .done) (s ∷ rest′) (f .none) ∙ those-front p s rest′ hit in
       let found : 1 ≡ min 1 (length (all t)) = omega (arith, ap length listed) in
       let place : s ≡ getD (all t) 0 0 = ap (λ (l : List ℕ). getD l 0 0) (sym listed) in
-      let count : tried + 1 ≡ length (upToPlace p walk) = omega (arith, f .count, ap length windows, length-append (f .done) (s ∷ [])) in
+      let count : tried + 1 ≡ length (upToPlace p walk) = omega (arith, f .count, up-to p (f .done) rest′ s split (f .none) hit) in
       λ i. record { refusal = 0; found = found i; place = place i; tried = count i }
 
   pub first-none : (bound tried : ℕ) {rest : List ℕ} → Looked (t .place) walk rest bound tried → rest ≡ []
@@ -108,7 +113,7 @@ module _ (t : Sought) (walk : List ℕ) (below : (s : ℕ) → t .place s ≡ tr
   first-none bound tried f e =
       let p = t .place in
       let whole : f .done ≡ walk = sym (append-nil (f .done)) ∙ ap (λ (l : List ℕ). f .done ++ l) (sym e) ∙ f .split in
-      let listed : all t ≡ [] = all-those ∙ ap (those p) (sym whole) ∙ those-none p (f .done) (f .none) in
+      let listed : all t ≡ [] = sym finds ∙ ap (those p) (sym whole) ∙ those-none p (f .done) (f .none) in
       let windows : upToPlace p walk ≡ f .done = ap (upToPlace p) (sym whole) ∙ up-whole p (f .done) (f .none) in
       rw (listed, windows, f .count)
 
@@ -123,6 +128,7 @@ first-refused num k t walk e h = rw e (refused-by num t walk (λ z. h (e ∙ z))
 
 -- what it answers over the spans is its answer
 pub going-first : (delta gamma : ℕ) (x y : List ℕ) {p : Prepared} {told : Flat} → Going delta gamma x y p
-    → told ≡ firstAnswer 0 (soughtBy (ruleIn (p .spans)) (length x) gamma y) (lastWalk (nearBy (ruleIn (p .spans)) gamma) (length x) (λ a. p .after) y)
+    → told ≡ firstAnswer 0 (soughtBy (ruleIn (p .spans)) (length x) gamma y) (walkIn (p .spans) (length x) gamma (p .after) y)
     → told ≡ firstAnswer (searchRefusal delta gamma x y) (soughtOf delta gamma x y) (lastWalkOf delta gamma x y)
-going-first delta gamma x y at e = rw (none-exactly delta gamma x y .1 (at .ok), ← at .walk, ← at .sought) e
+going-first delta gamma x y {p} at e =
+    rw (none-exactly delta gamma x y .1 (at .ok), ← at .walk, ← compiled-sought delta gamma x y (p .spans) (at .made) (at .ok)) e

@@ -8,23 +8,20 @@ use Rattle.first.proofs.search.Tie as tie
 -- what is known past the refusals
 abbrev Started : tie.Else1 → Type 0
 Started c =
-    let a = c .before .before .before .before .before .args in
-    Going (a .delta) (a .gamma) (a .points .now) (a .recording .now) (c .before .before .prepare .result)
+    let a = c .before .before .before .before .args in
+    Going (a .delta) (a .gamma) (a .points .now) (a .recording .now) (c .before .prepare .result)
 
 started : (c : tie.Else1) → Started c
-started c = going _ _ _ _ (c .before .before .prepare .ensures) (c .if1 .left)
+started c = going _ _ _ _ (c .before .prepare .ensures) (c .if1 .left)
 
 prepare-requires : tie.Need-prepare-requires
 prepare-requires c κs = search needs
 
 returns : tie.Need-returns
-returns c = first-refused _ _ _ _ (prepared-number _ _ _ _ _ (c .before .before .prepare .ensures)) (c .if1 .taken)
-
-slice-aggregate-over-spans : tie.Need-slice-aggregate-over-spans
-slice-aggregate-over-spans c = search needs
+returns c = first-refused _ _ _ _ (prepared-number _ _ _ _ _ (c .before .prepare .ensures)) (c .if1 .taken)
 
 over-spans-requires : tie.Need-over-spans-requires
-over-spans-requires c κs = let at = started (c .before .before .before .before) in (at .ready, (at .table, at .safe))
+over-spans-requires c κs = started (c .before .before .before .before) .walkable
 
 returns-2 : tie.Need-returns-2
 returns-2 c = going-first _ _ _ _ (started (c .before .before .before .before .before)) (c .over-spans .ensures)
@@ -35,6 +32,5 @@ search-spec =
     (tie.spec
     prepare-requires
     returns
-    slice-aggregate-over-spans
     over-spans-requires
     returns-2)

@@ -17,10 +17,14 @@ front-append : (b : Bool) (a : ℕ) (u v w : List ℕ) → w ≡ u ++ v → cond
 front-append true a u v w e = ap (λ (t : List ℕ). a ∷ t) e
 front-append false a u v w e = e
 
-those-append : (p : ℕ → Bool) (l r : List ℕ) → those p (l ++ r) ≡ those p l ++ those p r
+pub those-append : (p : ℕ → Bool) (l r : List ℕ) → those p (l ++ r) ≡ those p l ++ those p r
 unfolding those
 those-append p [] r = refl
 those-append p (a ∷ l) r = front-append (p a) a (those p l) (those p r) (those p (l ++ r)) (those-append p l r)
+
+pub those-front : (p : ℕ → Bool) (s : ℕ) (l : List ℕ) → p s ≡ true → those p (s ∷ l) ≡ s ∷ those p l
+unfolding those
+those-front p s l e = rw e
 
 those-hit : (p : ℕ → Bool) (l : List ℕ) (s : ℕ) → p s ≡ true → those p (l ++ (s ∷ [])) ≡ those p l ++ (s ∷ [])
 unfolding those

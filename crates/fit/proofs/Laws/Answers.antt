@@ -15,7 +15,7 @@ use Rattle.fit.specs.declared.limits.Checked.{Checked}
 use Rattle.fit.specs.declared.answer.Search.{Search}
 use Rattle.fit.proofs.Laws.Listings.{up-short}
 use Rattle.fit.proofs.Laws.Rules.{same-place}
-use Rattle.fit.proofs.Laws.Refusals.{accepted, none-exactly}
+use Rattle.fit.proofs.Laws.Refusals.{none-exactly}
 
 -- ---- a search that has begun
 pub begun-number : (num : ℕ) {r : Search} → r ≡ begun num → r .refusal ≡ num
@@ -40,9 +40,6 @@ none-refused num e z = sym (begun-number num e) ∙ z
 
 pub begun-none : (num : ℕ) {r : Search} → r ≡ begun num → r .refusal ≡ 0 → r ≡ begun 0
 begun-none num e z = e ∙ ap begun (none-refused num e z)
-
-pub begun-accepted : (delta gamma : ℕ) (x y : List ℕ) {r : Search} → r ≡ begun (searchRefusal delta gamma x y) → r .refusal ≡ 0 → Accepted delta gamma x y
-begun-accepted delta gamma x y e z = accepted delta gamma x y (none-refused (searchRefusal delta gamma x y) e z)
 
 -- ---- what is sought over spans is what is sought for the profile: their rules ask the same
 pub same-sought : (r′ : Rule) (delta gamma : ℕ) (x y : List ℕ) → SameRule (length x) r′ (ruleOf delta x) → soughtBy r′ (length x) gamma y ≡ soughtOf delta gamma x y
@@ -80,6 +77,29 @@ module _ (delta gamma : ℕ) (x y : List ℕ) (tried : ℕ) (entry final : List 
   pub answer-refused : (num : ℕ) → searchRefusal delta gamma x y ≡ suc num → (r ≡ record { refusal = suc num; total = 0; tried = 0 }) × (final ≡ entry)
   unfolding outcome filled
   answer-refused num e = (rw e at (a .result), ap (λ (v : Lent). v .list) (rw e at (a .lists)))
+
+-- ---- by whatever number: an answer that is not refused has all that is sought, the windows tried, and the list
+number-of : (num : ℕ) (t : Sought) (tried : ℕ) → outcome num t tried .refusal ≡ num
+unfolding outcome
+number-of zero t tried = refl
+number-of (suc num) t tried = refl
+
+pub record Done (t : Sought) (tried : ℕ) (entry : Lent) (r : Search) (final : Lent) : Type 0 where
+  pub total : r .total ≡ length (all t)
+  pub windows : r .tried ≡ tried
+  pub list : final .list ≡ overlay (all t) (entry .list)
+
+pub answer-done : (num : ℕ) (t : Sought) (tried : ℕ) (entry : Lent) (r : Search) (final : Lent) → Answer num t tried entry r final → r .refusal ≡ 0 → Done t tried entry r final
+unfolding outcome filled
+answer-done num t tried entry r final a z =
+    let none : num ≡ 0 = sym (number-of num t tried) ∙ sym (ap (λ (q : Search). q .refusal) (a .result)) ∙ z in
+    let result : r ≡ outcome 0 t tried = rw none at (a .result) in
+    let lists : final ≡ filled 0 t entry = rw none at (a .lists) in
+    record {
+      total = ap (λ (q : Search). q .total) result;
+      windows = ap (λ (q : Search). q .tried) result;
+      list = ap (λ (l : Lent). l .list) lists;
+    }
 
 -- ---- no second answer satisfies the statement
 pub only-answer : (num : ℕ) (t : Sought) (tried : ℕ) (entry : Lent) (r r′ : Search) (l l′ : Lent)

@@ -59,6 +59,13 @@ overlay-at (p ∷ ps) [] k h l = absurd (not-suc-le-zero l)
 overlay-at (p ∷ ps) (e ∷ entry) zero h l = refl
 overlay-at (p ∷ ps) (e ∷ entry) (suc k) h l = overlay-at ps entry k (le-of-suc-le-suc h) (le-of-suc-le-suc l)
 
+-- the first is laid first, into a list that has room for one
+pub overlay-first : (ps entry : List ℕ) → 1 ≤ length ps → 1 ≤ length entry → getD (overlay ps entry) 0 0 ≡ getD ps 0 0
+unfolding overlay
+overlay-first [] entry h l = absurd (not-suc-le-zero h)
+overlay-first (p ∷ ps) [] h l = absurd (not-suc-le-zero l)
+overlay-first (p ∷ ps) (e ∷ entry) h l = refl
+
 pub take-overlay : (ps entry : List ℕ) → length ps ≤ length entry → take (length ps) (overlay ps entry) ≡ ps
 unfolding overlay
 take-overlay [] entry l = refl

@@ -8,9 +8,9 @@ use Rattle.fit.specs.Answer.{begun}
 use Rattle.fit.specs.Made.{questionChecked, searchChecked}
 use Rattle.fit.specs.declared.limits.Checked.{Checked}
 use Rattle.fit.specs.declared.answer.Search.{Search}
-use Rattle.fit.proofs.Laws.Refusals.{asked-accepted}
+use Rattle.fit.proofs.Laws.Refusals.{asked-accepted, accepted}
 use Rattle.fit.proofs.Laws.Constructed.{Carries, question-carries, search-carries}
-use Rattle.fit.proofs.Laws.Answers.{begins, begun-none, begun-accepted}
+use Rattle.fit.proofs.Laws.Answers.{begun-number, begins, begun-none}
 
 -- a question
 pub record Posed (delta gamma : ℕ) (x : List ℕ) (q : Checked) : Type 0 where
@@ -22,6 +22,16 @@ posed delta gamma x e z =
     let ok = asked-accepted delta gamma x (sym (ap (λ (q : Checked). q .refusal) e) ∙ z) in
     record { ok = ok; carries = question-carries delta gamma x e ok }
 
+-- a search
+pub record Passed (delta gamma : ℕ) (x y : List ℕ) (q : Checked) : Type 0 where
+  pub ok : Accepted delta gamma x y
+  pub carries : Carries delta gamma x q
+
+pub passed : (delta gamma : ℕ) (x y : List ℕ) {q : Checked} → q ≡ searchChecked delta gamma x y → q .refusal ≡ 0 → Passed delta gamma x y q
+passed delta gamma x y e z =
+    let ok = accepted delta gamma x y (sym (ap (λ (q : Checked). q .refusal) e) ∙ z) in
+    record { ok = ok; carries = search-carries delta gamma x y e (ok .asked) }
+
 -- a search, which has begun
 pub record Underway (delta gamma : ℕ) (x y : List ℕ) (q : Checked) (r : Search) : Type 0 where
   pub ok : Accepted delta gamma x y
@@ -31,9 +41,8 @@ pub record Underway (delta gamma : ℕ) (x y : List ℕ) (q : Checked) (r : Sear
 pub underway : (delta gamma : ℕ) (x y : List ℕ) {q : Checked} {r : Search} → q ≡ searchChecked delta gamma x y → r ≡ begun (q .refusal) → r .refusal ≡ 0
     → Underway delta gamma x y q r
 underway delta gamma x y e b z =
-    let started = begins delta gamma x y e b in
-    let ok = begun-accepted delta gamma x y started z in
-    record { ok = ok; carries = search-carries delta gamma x y e (ok .asked); none = begun-none _ started z }
+    let past = passed delta gamma x y e (sym (begun-number _ b) ∙ z) in
+    record { ok = past .ok; carries = past .carries; none = begun-none _ (begins delta gamma x y e b) z }
 
 -- the profile of either may be compiled
 pub may-compile : (delta gamma : ℕ) (x : List ℕ) {q : Checked} → Asked delta gamma x → Carries delta gamma x q → (q .profile .m ≤ maxPoints) × (q .tolerance .delta ≤ maxDelta)

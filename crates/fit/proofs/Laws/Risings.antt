@@ -7,6 +7,7 @@ use mathlib.Core.List.{List, [], _∷_, _++_, List·Memᴰ, List·Memᴰ·head, 
 use Prim.Native.Nat.{ℕ, zero, suc, _+_, _≤_, _<_}
 use native.Mathlib.Nat.{le-trans, not-suc-le-zero, eq-or-lt-of-le, le-of-suc-le-suc}
 use native.Mathlib.Omega.{arith}
+use lib.ListN.{getD}
 use Rattle.fit.specs.Listing.{upTo, Rising, those}
 use Rattle.fit.specs.Listing.Rising.{none, next}
 
@@ -42,6 +43,11 @@ up-in p (suc k) s h e =
 pub rising-min : {b a : ℕ} {l : List ℕ} → Rising b l → List·Memᴰ a l → b ≤ a
 rising-min none m = absurd (List·Memᴰ·not-nil m)
 rising-min (next h r) m = ⊎-elim (λ e. omega (arith, e)) (λ n. omega (arith, h, rising-min r n)) (List·Memᴰ·cases-cons m)
+
+-- the first entry of a rising list is the least
+pub rising-first : {b t : ℕ} {l : List ℕ} → Rising b l → List·Memᴰ t l → getD l 0 0 ≤ t
+rising-first none m = absurd (List·Memᴰ·not-nil m)
+rising-first (next h r) m = ⊎-elim (λ e. omega (arith, e)) (λ n. omega (arith, rising-min r n)) (List·Memᴰ·cases-cons m)
 
 pub rising-from : {b c : ℕ} {l : List ℕ} → c ≤ b → Rising b l → Rising c l
 rising-from e none = none

@@ -1,4 +1,4 @@
--- Laws of going along last's walk by the table of its jumps: for all that go along it. Assumes nothing.
+-- Laws of going along last's walk by the table of its jumps, for all that go along it. Assumes nothing.
 use mathlib.Core.Path.{_≡_, refl, sym, ap, _∙_}
 use mathlib.Core.Logic.{⊎-elim}
 use mathlib.Core.List.{List, [], _∷_}
@@ -7,12 +7,15 @@ use native.Mathlib.Omega.{arith}
 use lib.ListN.{length, getD}
 use lib.Dec.{eqb}
 use borrow.Author.Tests.{lt-ltb, le-ltb, eq-eqb, ne-eqb, eqb-true, eqb-false}
-use Rattle.fit.specs.Rule.{Rule, nearBy}
+use Rattle.fit.specs.Rule.{isPlaceBy, nearBy}
+use Rattle.fit.specs.Listing.{those}
+use Rattle.fit.specs.Refusal.{maxPoints}
+use Rattle.fit.specs.Spans.{ruleIn}
+use Rattle.fit.specs.Answer.{soughtBy, all}
 use Rattle.fit.proofs.Laws.Bools.{either, le-or-lt}
-use Rattle.tables.specs.Holding.{Holds}
 use Rattle.jumps.specs.Jumps.{lastJump}
-use Rattle.last.specs.Walk.{lastWalk, Safe, seekBy, seek}
-use Rattle.last.proofs.Laws.Walks.{left, last-start, last-end, end-try, end-pass}
+use Rattle.last.specs.Walk.{afterBy, walkIn, Walkable, seekBy, seek}
+use Rattle.last.proofs.Laws.Walks.{left, last-start, last-end, last-finds, end-try, end-pass}
 
 -- ---- where the jumps of a table lead
 module _ (table y : List ℕ) where
@@ -34,7 +37,7 @@ module _ (table y : List ℕ) where
   unfolding seekBy
   by-on k q h n = rw (lt-ltb q (length y) h, ne-eqb (entry q) 0 n)
 
-  -- steps that are enough are enough
+  -- any two numbers of steps that are enough lead to the same
   same-steps : (k k′ q : ℕ) → length y ≤ k + q → length y ≤ k′ + q → seekBy table y k q ≡ seekBy table y k′ q
   same-steps zero k′ q h h′ = by-end zero q (omega arith) ∙ sym (by-end k′ q (omega arith))
   same-steps (suc k) zero q h h′ = by-end (suc k) q (omega arith) ∙ sym (by-end zero q (omega arith))
@@ -63,76 +66,88 @@ module _ (table y : List ℕ) where
       let on = by-on k q h (λ z. n (e ∙ z)) in
       rw (f, e) (on ∙ same-steps k (length y - (q + entry q)) (q + entry q) (omega (arith, n, e)) (omega arith))
 
--- ---- the walk stands where the last reading of a window stands at q: it tries that window, or it has ended
-pub record Stands (r : Rule) (m gamma : ℕ) (after : ℕ → ℕ) (table y : List ℕ) (q : ℕ) : Type 0 where
-  pub some : 1 ≤ m
-  pub safe : Safe r m gamma after y
-  pub jumps : Holds (lastJump (nearBy r gamma) m) 256 256 table
+-- ---- the walk of m points compiled to spans, and what is left of it at the window whose last reading stands at q
+abbrev pub leftIn : List ℕ → ℕ → ℕ → ℕ → List ℕ → ℕ → List ℕ
+leftIn spans m gamma after y q = left (nearBy (ruleIn spans) gamma) m (afterBy after) y (q - (m - 1))
+
+-- the walk stands there: it tries that window, or it has ended
+pub record Stands (spans table : List ℕ) (m gamma after : ℕ) (y : List ℕ) (q : ℕ) : Type 0 where
+  pub walkable : Walkable spans table m gamma after y
   pub readings : (i : ℕ) → getD y i 0 < 256
   pub from : m ≤ q + 1
-  pub tries : q < length y → lastJump (nearBy r gamma) m (getD y q 0) ≡ 0
+  pub tries : q < length y → lastJump (nearBy (ruleIn spans) gamma) m (getD y q 0) ≡ 0
 
-module _ (r : Rule) (m gamma : ℕ) (after : ℕ → ℕ) (table y : List ℕ) (some : 1 ≤ m) (safe : Safe r m gamma after y)
-    (jumps : Holds (lastJump (nearBy r gamma) m) 256 256 table) (readings : (i : ℕ) → getD y i 0 < 256) where
-  abbrev rest : ℕ → List ℕ
-  rest q = left (nearBy r gamma) m after y (q - (m - 1))
+module _ (spans table : List ℕ) (m gamma after : ℕ) (y : List ℕ) (w : Walkable spans table m gamma after y) where
+  -- the places among its windows are all that is sought
+  pub walk-finds : those (isPlaceBy (ruleIn spans) m gamma y) (walkIn spans m gamma after y) ≡ all (soughtBy (ruleIn spans) m gamma y)
+  walk-finds = last-finds (ruleIn spans) m gamma (afterBy after) y (w .ready .some) (w .safe)
 
-  -- what is told of the place to which the jumps lead
-  record Leads (q p : ℕ) : Type 0 where
-    forth : q ≤ p
-    same : rest q ≡ rest p
-    tries : p < length y → lastJump (nearBy r gamma) m (getD y p 0) ≡ 0
+  module _ (readings : (i : ℕ) → getD y i 0 < 256) where
+    -- what is told of the position to which the jumps lead
+    record Leads (q p : ℕ) : Type 0 where
+      forth : q ≤ p
+      same : leftIn spans m gamma after y q ≡ leftIn spans m gamma after y p
+      tries : p < length y → lastJump (nearBy (ruleIn spans) gamma) m (getD y p 0) ≡ 0
 
-  stays : (q p : ℕ) → p ≡ q → (q < length y → lastJump (nearBy r gamma) m (getD y q 0) ≡ 0) → Leads q p
-  stays q p e f = rw e (record { forth = omega arith; same = refl; tries = f })
+    stays : (q p : ℕ) → p ≡ q → (q < length y → lastJump (nearBy (ruleIn spans) gamma) m (getD y q 0) ≡ 0) → Leads q p
+    stays q p e f = rw e (record { forth = omega arith; same = refl; tries = f })
 
-  leads : (k q : ℕ) → length y ≤ k + q → m ≤ q + 1 → Leads q (seekBy table y k q)
-  leads zero q h from = stays q _ (by-end table y zero q (omega arith)) (λ l. absurd (omega arith))
-  leads (suc k) q h from =
-      ⊎-elim (λ (l : length y ≤ q). stays q _ (by-end table y (suc k) q l) (λ b. absurd (omega arith)))
-      (λ (l : q < length y).
-      let jump : entry table y q ≡ lastJump (nearBy r gamma) m (getD y q 0) = jumps .at (getD y q 0) (readings q) in
-      ⊎-elim (λ t. let e = eqb-true (entry table y q) 0 t in stays q _ (by-here table y (suc k) q e) (λ b. sym jump ∙ e))
-      (λ t. let n = eqb-false (entry table y q) 0 t in
-      let on = leads k (q + entry table y q) (omega (arith, n)) (omega arith) in
-      rw (by-on table y k q l n)
-      (record {
-        forth = omega (arith, on .forth);
-        same = end-pass r m gamma after y some safe q (entry table y q) from l jump n ∙ on .same;
-        tries = on .tries;
-      }))
-      (either (eqb (entry table y q) 0)))
-      (le-or-lt (length y) q)
+    leads : (k q : ℕ) → length y ≤ k + q → m ≤ q + 1 → Leads q (seekBy table y k q)
+    leads zero q h from = stays q _ (by-end table y zero q (omega arith)) (λ l. absurd (omega arith))
+    leads (suc k) q h from =
+        ⊎-elim (λ (l : length y ≤ q). stays q _ (by-end table y (suc k) q l) (λ b. absurd (omega arith)))
+        (λ (l : q < length y).
+        let jump : entry table y q ≡ lastJump (nearBy (ruleIn spans) gamma) m (getD y q 0) = w .jumps .at (getD y q 0) (readings q) in
+        ⊎-elim (λ t. let e = eqb-true (entry table y q) 0 t in stays q _ (by-here table y (suc k) q e) (λ b. sym jump ∙ e))
+        (λ t. let n = eqb-false (entry table y q) 0 t in
+        let on = leads k (q + entry table y q) (omega (arith, n)) (omega arith) in
+        rw (by-on table y k q l n)
+        (record {
+          forth = omega (arith, on .forth);
+          same = end-pass (ruleIn spans) m gamma (afterBy after) y (w .ready .some) (w .safe) q (entry table y q) from l jump n ∙ on .same;
+          tries = on .tries;
+        }))
+        (either (eqb (entry table y q) 0)))
+        (le-or-lt (length y) q)
 
-  led : (q p : ℕ) → p ≡ seek table y q → m ≤ q + 1 → Leads q p
-  unfolding seek
-  led q p e from = rw e (leads (length y - q) q (omega arith) from)
+    led : (q p : ℕ) → p ≡ seek table y q → m ≤ q + 1 → Leads q p
+    unfolding seek
+    led q p e from = rw e (leads (length y - q) q (omega arith) from)
 
-  stands : (q p : ℕ) → m ≤ q + 1 → Leads q p → Stands r m gamma after table y p
-  stands q p from l = record { some = some; safe = safe; jumps = jumps; readings = readings; from = omega (arith, l .forth); tries = l .tries }
+    stands : (q p : ℕ) → m ≤ q + 1 → Leads q p → Stands spans table m gamma after y p
+    stands q p from l = record { walkable = w; readings = readings; from = omega (arith, l .forth); tries = l .tries }
 
-  -- before the first window: the walk is what is left where the jumps lead from the last reading of the window at 0
-  pub stands-first : (p : ℕ) → p ≡ seek table y (m - 1) → Stands r m gamma after table y p × (lastWalk (nearBy r gamma) m after y ≡ rest p)
-  stands-first p e =
-      let l = led (m - 1) p e (omega arith) in
-      let none : m - 1 - (m - 1) ≡ 0 = omega arith in
-      (stands (m - 1) p (omega arith) l, last-start r m gamma after y some safe ∙ ap (left (nearBy r gamma) m after y) (sym none) ∙ l .same)
+    -- before the first window: the walk is what is left where the jumps lead from the last reading of the window at 0
+    pub stands-first : (p : ℕ) → p ≡ seek table y (m - 1) → Stands spans table m gamma after y p × (walkIn spans m gamma after y ≡ leftIn spans m gamma after y p)
+    stands-first p e =
+        let some = w .ready .some in
+        let l = led (m - 1) p e (omega arith) in
+        let none : m - 1 - (m - 1) ≡ 0 = omega arith in (
+          stands (m - 1) p (omega arith) l,
+          last-start (ruleIn spans) m gamma (afterBy after) y some (w .safe) ∙ ap (left (nearBy (ruleIn spans) gamma) m (afterBy after) y) (sym none) ∙ l .same,
+        )
 
 -- after the window that it tries, where the jumps lead from there
-module _ (r : Rule) (m gamma : ℕ) (after : ℕ → ℕ) (table y : List ℕ) (q : ℕ) (at : Stands r m gamma after table y q) where
-  module _ (h : q < length y) (p : ℕ) (e : p ≡ seek table y (q + after (getD y q 0))) where
-    next : Leads r m gamma after table y (at .some) (at .safe) (at .jumps) (at .readings) (q + after (getD y q 0)) p
-    next = led r m gamma after table y (at .some) (at .safe) (at .jumps) (at .readings) (q + after (getD y q 0)) p e (omega (arith, at .from))
+module _ (spans table : List ℕ) (m gamma after : ℕ) (y : List ℕ) (q : ℕ) (at : Stands spans table m gamma after y q) where
+  module _ (h : q < length y) (p : ℕ) (e : p ≡ seek table y (q + afterBy after (getD y q 0))) where
+    next : Leads spans table m gamma after y (at .walkable) (at .readings) (q + afterBy after (getD y q 0)) p
+    next = led spans table m gamma after y (at .walkable) (at .readings) (q + afterBy after (getD y q 0)) p e (omega (arith, at .from))
 
-    pub stands-next : Stands r m gamma after table y p
-    stands-next = stands r m gamma after table y (at .some) (at .safe) (at .jumps) (at .readings) (q + after (getD y q 0)) p (omega (arith, at .from)) next
+    pub stands-next : Stands spans table m gamma after y p
+    stands-next = stands spans table m gamma after y (at .walkable) (at .readings) (q + afterBy after (getD y q 0)) p (omega (arith, at .from)) next
 
     pub stands-forth : q < p
-    stands-forth = omega (arith, next .forth, at .safe .forward (getD y q 0))
+    stands-forth = omega (arith, next .forth, at .walkable .safe .forward (getD y q 0))
 
-    pub stands-try : left (nearBy r gamma) m after y (q - (m - 1)) ≡ (q - (m - 1)) ∷ left (nearBy r gamma) m after y (p - (m - 1))
+    pub stands-try : leftIn spans m gamma after y q ≡ (q - (m - 1)) ∷ leftIn spans m gamma after y p
     stands-try =
-        end-try r m gamma after y (at .some) (at .safe) q (at .from) h (at .tries h) ∙ ap (λ (l : List ℕ). (q - (m - 1)) ∷ l) (next .same)
+        end-try (ruleIn spans) m gamma (afterBy after) y (at .walkable .ready .some) (at .walkable .safe) q (at .from) h (at .tries h)
+        ∙ ap (λ (l : List ℕ). (q - (m - 1)) ∷ l) (next .same)
 
-  pub stands-end : length y ≤ q → left (nearBy r gamma) m after y (q - (m - 1)) ≡ []
-  stands-end h = last-end r m gamma after y (at .some) (at .safe) (q - (m - 1)) (omega (arith, at .some))
+  pub stands-end : length y ≤ q → leftIn spans m gamma after y q ≡ []
+  stands-end h =
+      last-end (ruleIn spans) m gamma (afterBy after) y (at .walkable .ready .some) (at .walkable .safe) (q - (m - 1)) (omega (arith, at .walkable .ready .some))
+
+  -- what the next step asks of the jump after a tried window
+  pub stands-short : afterBy after (getD y q 0) ≤ maxPoints
+  stands-short = omega (arith, at .walkable .safe .short (getD y q 0), at .walkable .ready .few)

@@ -1,8 +1,6 @@
 -- `last::prepare` meets its contract: refused as its checked input is, or what the walk goes by. Assumes nothing.
-use mathlib.Core.Path.{refl}
 use Rattle.fit.proofs.Laws.Constructed.{told-d, told-spans}
-use Rattle.fit.proofs.Laws.Openings.{Underway, underway, may-compile}
-use Rattle.fit.specs.Answer.{begun}
+use Rattle.fit.proofs.Laws.Openings.{Passed, passed, may-compile}
 use Rattle.fit.proofs.Laws.Compiled.{ready}
 use Rattle.tables.proofs.Laws.Holdings.{usable}
 use Rattle.last.proofs.Laws.Ordinary.{prepared-refused, prepared-made}
@@ -14,10 +12,10 @@ use Rattle.last.proofs.walk.prepare.Tie as tie
 abbrev Started : tie.Else1 → Type 0
 Started c =
     let a = c .before .before .before .before .before .args in
-    Underway (a .delta) (a .gamma) (a .points .now) (a .recording .now) (c .before .before .checked-search .result) (begun (c .before .before .checked-search .result .refusal))
+    Passed (a .delta) (a .gamma) (a .points .now) (a .recording .now) (c .before .before .checked-search .result)
 
 started : (c : tie.Else1) → Started c
-started c = underway _ _ _ _ (c .before .before .checked-search .ensures) refl (c .if1 .left)
+started c = passed _ _ _ _ (c .before .before .checked-search .ensures) (c .if1 .left)
 
 checked-search-requires : tie.Need-checked-search-requires
 checked-search-requires c κs = search needs
