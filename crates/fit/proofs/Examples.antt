@@ -2,11 +2,12 @@
 use mathlib.Core.Bool.{true, false}
 use mathlib.Core.Path.{_≡_, refl}
 use mathlib.Core.List.{[], _∷_}
+use lib.ListN.{replicate}
 use Rattle.fit.specs.Reading.{near}
 use Rattle.fit.specs.Rule.{allFit, sumCost, isPlaceBy}
 use Rattle.fit.specs.Place.{isPlace}
 use Rattle.fit.specs.Listing.{upTo, places}
-use Rattle.fit.specs.Refusal.{orElse, ofProfile, ofTolerance, ofRecording, questionRefusal, searchRefusal}
+use Rattle.fit.specs.Refusal.{searchRefusal}
 use Rattle.fit.specs.Answer.{soughtOf, lent, filled}
 
 -- a reading that differs by d is near, one that differs by d + 1 is not
@@ -19,7 +20,12 @@ pub place-edges : places 1 1 (40 ∷ 40 ∷ []) (40 ∷ 41 ∷ 41 ∷ 40 ∷ [])
 unfolding places upTo isPlace isPlaceBy allFit sumCost near
 place-edges = refl
 
--- no points and a delta that is too large: the lowest number is given, and a list keeps its entries
-pub refusal-edges : (searchRefusal 256 0 [] [] ≡ 1) × (filled (searchRefusal 256 0 [] []) (soughtOf 256 0 [] (7 ∷ [])) (lent (5 ∷ [])) ≡ lent (5 ∷ []))
-unfolding searchRefusal questionRefusal orElse ofProfile ofTolerance ofRecording filled
-refusal-edges = (refl, refl)
+-- the first reason in the written order: no points or 65 of them, with a delta that is too large; 64 with it, and without
+pub order-edges : (searchRefusal 256 0 [] [] ≡ 1) × (searchRefusal 256 0 (replicate 65 0) [] ≡ 7) × (searchRefusal 256 0 (replicate 64 0) [] ≡ 2) × (searchRefusal 255 0 (replicate 64 0) [] ≡ 0)
+unfolding searchRefusal
+order-edges = (refl, refl, refl, refl)
+
+-- refused, a list keeps its entries
+pub refusal-edges : filled (searchRefusal 256 0 [] []) (soughtOf 256 0 [] (7 ∷ [])) (lent (5 ∷ [])) ≡ lent (5 ∷ [])
+unfolding searchRefusal filled
+refusal-edges = refl

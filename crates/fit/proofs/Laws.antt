@@ -4,6 +4,7 @@ pub mod Listings
 pub mod Risings
 pub mod Rules
 pub mod Places
+pub mod Chains
 pub mod Refusals
 pub mod Shorts
 pub mod Constructed

@@ -4,6 +4,7 @@ pub mod Rule
 pub mod Place
 pub mod Listing
 pub mod Walk
+pub mod Chain
 pub mod Refusal
 pub mod Made
 pub mod Spans

@@ -1,11 +1,12 @@
--- What is turned away, and in which order: document 01's table. Assumes nothing.
+-- What is turned away, and in which order: document 01's table, and what document 02 changes in it. Assumes nothing.
 use Prim.Native.Nat.{ℕ, zero, suc, _≤_, _<_}
-use mathlib.Core.Bool.{cond, _||_}
-use mathlib.Core.List.{List}
+use mathlib.Core.Bool.{_||_}
+use mathlib.Core.List.{List, [], _∷_, _++_}
 use mathlib.Core.Logic.{_⊎_}
 use mathlib.Core.Path.{_≡_}
 use lib.ListN.{length}
 use lib.Dec.{eqb, ltb}
+use Rattle.fit.specs.Chain.{Reason, firstReason}
 
 -- "The greatest allowed values, 64 points, 255, 16,320 and 1,000,000 readings"
 abbrev pub maxPoints : ℕ
@@ -20,32 +21,55 @@ maxGamma = 16320
 abbrev pub maxReadings : ℕ
 maxReadings = 1000000
 
--- "The lowest number that applies is given": the first of two numbers that is not 0
+-- the first of two numbers that is not 0, by which code joins two chains
 unfoldable pub orElse : ℕ → ℕ → ℕ
 orElse zero later = later
 orElse (suc num) later = suc num
 
--- No. 1: "m = 0 or m > 64"
-unfoldable pub ofProfile : List ℕ → ℕ
-ofProfile x = cond (eqb (length x) 0 || ltb maxPoints (length x)) 1 0
+-- ---- the reasons
+-- "1 now only for m = 0"
+abbrev pub noPoints : List ℕ → Reason
+noPoints x = record { number = 1; applies = eqb (length x) 0 }
+
+-- "7 for m > 64"
+abbrev pub manyPoints : List ℕ → Reason
+manyPoints x = record { number = 7; applies = ltb maxPoints (length x) }
 
 -- No. 2: "delta > 255 or gamma > 16,320"
-unfoldable pub ofTolerance : ℕ → ℕ → ℕ
-ofTolerance delta gamma = cond (ltb maxDelta delta || ltb maxGamma gamma) 2 0
+abbrev pub wideTolerance : ℕ → ℕ → Reason
+wideTolerance delta gamma = record { number = 2; applies = ltb maxDelta delta || ltb maxGamma gamma }
 
 -- No. 3: "n > 1,000,000"
+abbrev pub manyReadings : List ℕ → Reason
+manyReadings y = record { number = 3; applies = ltb maxReadings (length y) }
+
+-- ---- the order in which they are written: 7 is "tested directly after 1"
+abbrev pub profileReasons : List ℕ → List Reason
+profileReasons x = noPoints x ∷ manyPoints x ∷ []
+
+abbrev pub questionReasons : ℕ → ℕ → List ℕ → List Reason
+questionReasons delta gamma x = profileReasons x ++ (wideTolerance delta gamma ∷ [])
+
+abbrev pub searchReasons : ℕ → ℕ → List ℕ → List ℕ → List Reason
+searchReasons delta gamma x y = questionReasons delta gamma x ++ (manyReadings y ∷ [])
+
+-- ---- the refusal of a profile, a tolerance, a recording, a question and a search: the first reason's number, and 0 where none applies
+unfoldable pub ofProfile : List ℕ → ℕ
+ofProfile x = firstReason (profileReasons x)
+
+unfoldable pub ofTolerance : ℕ → ℕ → ℕ
+ofTolerance delta gamma = firstReason (wideTolerance delta gamma ∷ [])
+
 unfoldable pub ofRecording : List ℕ → ℕ
-ofRecording y = cond (ltb maxReadings (length y)) 3 0
+ofRecording y = firstReason (manyReadings y ∷ [])
 
--- the refusal of a question: 1 or 2, and 0 where it is accepted
 unfoldable pub questionRefusal : ℕ → ℕ → List ℕ → ℕ
-questionRefusal delta gamma x = orElse (ofProfile x) (ofTolerance delta gamma)
+questionRefusal delta gamma x = firstReason (questionReasons delta gamma x)
 
--- the refusal of a search: 1, 2 or 3, and 0 where it is accepted
 unfoldable pub searchRefusal : ℕ → ℕ → List ℕ → List ℕ → ℕ
-searchRefusal delta gamma x y = orElse (questionRefusal delta gamma x) (ofRecording y)
+searchRefusal delta gamma x y = firstReason (searchReasons delta gamma x y)
 
--- the table's reasons, as facts
+-- ---- the reasons, as facts: of the profile the one or the other
 abbrev pub BadProfile : List ℕ → Type 0
 BadProfile x = (length x ≡ 0) ⊎ (maxPoints < length x)
 

@@ -115,7 +115,7 @@ impl Profile {
         }
         if Profile::MAX_POINTS < m {
             return MadeProfile {
-                refusal: 1,
+                refusal: 7,
                 profile: Profile {
                     points: [0; Profile::MAX_POINTS],
                     m: 0,
@@ -165,7 +165,7 @@ pub struct Checked {
     pub tolerance: Tolerance,
 }
 
-// The input of a question, refused by 1 or 2.
+// The input of a question, refused by 1, 7 or 2.
 pub fn checked_question(points: &[u8], delta: u32, gamma: u32) -> Checked
     ensures { λ r. ⌜ r ≡ questionChecked delta gamma (now (points .entry)) ⌝ }
 {
@@ -180,7 +180,7 @@ pub fn checked_question(points: &[u8], delta: u32, gamma: u32) -> Checked
     }
 }
 
-// The input of a search, refused by 1, 2 or 3.
+// The input of a search, refused by 1, 7, 2 or 3.
 pub fn checked_search(points: &[u8], delta: u32, gamma: u32, recording: &[u8]) -> Checked
     ensures { λ r. ⌜ r ≡ searchChecked delta gamma (now (points .entry)) (now (recording .entry)) ⌝ }
 {

@@ -1,12 +1,13 @@
 -- What a question answers. Assumes nothing.
 use Prim.Native.Nat.{ℕ, zero, suc, _<_}
-use mathlib.Core.Bool.{cond, _||_}
-use mathlib.Core.List.{List}
+use mathlib.Core.Bool.{_||_}
+use mathlib.Core.List.{List, [], _∷_, _++_}
 use mathlib.Core.Logic.{_⊎_}
 use mathlib.Core.Path.{_≡_}
 use lib.ListN.{length}
 use lib.Dec.{eqb, ltb}
-use Rattle.fit.specs.Refusal.{orElse, questionRefusal}
+use Rattle.fit.specs.Chain.{Reason, firstReason}
+use Rattle.fit.specs.Refusal.{questionReasons}
 use Rattle.questions.specs.declared.Jump.{Jump}
 
 -- by the refusal's number: the jump; or the number "with any jump 0"
@@ -15,12 +16,18 @@ jumpAnswer zero k = record { refusal = 0; jump = k }
 jumpAnswer (suc num) k = record { refusal = suc num; jump = 0 }
 
 -- No. 6: "point number is 0 or above m"
-unfoldable pub ofPoint : ℕ → ℕ → ℕ
-ofPoint m p = cond (eqb p 0 || ltb m p) 6 0
+abbrev pub noPoint : ℕ → ℕ → Reason
+noPoint m p = record { number = 6; applies = eqb p 0 || ltb m p }
 
 abbrev pub BadPoint : ℕ → ℕ → Type 0
 BadPoint m p = (p ≡ 0) ⊎ (m < p)
 
--- the refusal of the mismatch question: 1, 2 or 6, and 0 where it is accepted
-abbrev pub mismatchRefusal : ℕ → ℕ → List ℕ → ℕ → ℕ
-mismatchRefusal delta gamma x p = orElse (questionRefusal delta gamma x) (ofPoint (length x) p)
+unfoldable pub ofPoint : ℕ → ℕ → ℕ
+ofPoint m p = firstReason (noPoint m p ∷ [])
+
+-- the reasons of the mismatch question: those of every question, then 6
+abbrev pub mismatchReasons : ℕ → ℕ → List ℕ → ℕ → List Reason
+mismatchReasons delta gamma x p = questionReasons delta gamma x ++ (noPoint (length x) p ∷ [])
+
+unfoldable pub mismatchRefusal : ℕ → ℕ → List ℕ → ℕ → ℕ
+mismatchRefusal delta gamma x p = firstReason (mismatchReasons delta gamma x p)

@@ -1,7 +1,7 @@
 -- Laws of tests, and of the order of two numbers. Assumes nothing.
 use mathlib.Core.Path.{_≡_, refl, sym, _∙_}
 use mathlib.Core.Bool.{Bool, true, false, _&&_, _||_, true≢false}
-use mathlib.Core.Logic.{_⊎_, inl, inr}
+use mathlib.Core.Logic.{_⊎_, inl, inr, ⊎-elim}
 use Prim.Native.Nat.{ℕ, _≤_, _<_}
 use native.Mathlib.Decide.{decLe}
 use native.Mathlib.Omega.{arith}
@@ -62,3 +62,7 @@ le-or-lt a b = by-dec (decLe a b)
     by-dec : Dec (a ≤ b) → (a ≤ b) ⊎ (b < a)
     by-dec (yes h) = inl h
     by-dec (no h) = inr (omega arith)
+
+-- a number that is not above another is at most that one
+pub at-most : (a b : ℕ) → (b < a → ⊥) → a ≤ b
+at-most a b h = ⊎-elim (λ l. l) (λ l. absurd (h l)) (le-or-lt a b)

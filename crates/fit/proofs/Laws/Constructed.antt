@@ -9,14 +9,14 @@ use lib.ListN.{length, take, set, getD, replicate, length-replicate}
 use lib.Seq.{take-suc, length-take-le}
 use Rattle.fit.specs.Place.{dOf, gOf}
 use Rattle.fit.specs.Listing.{overlay}
-use Rattle.fit.specs.Refusal.{maxPoints, maxDelta, maxGamma, orElse, ofProfile, ofTolerance, ofRecording, questionRefusal, searchRefusal, BadProfile, BadTolerance, Asked}
+use Rattle.fit.specs.Refusal.{maxPoints, maxDelta, maxGamma, orElse, ofProfile, ofTolerance, ofRecording, questionRefusal, searchRefusal, BadTolerance, Asked}
 use Rattle.fit.specs.Spans.{spansOf}
 use Rattle.fit.specs.Made.{madeTolerance, toleranceMade, madeProfile, profileMade, pointsOf, questionChecked, searchChecked}
 use Rattle.fit.specs.declared.limits.MadeTolerance.{MadeTolerance}
 use Rattle.fit.specs.declared.limits.MadeProfile.{MadeProfile}
 use Rattle.fit.specs.declared.limits.Checked.{Checked}
 use Rattle.fit.proofs.Laws.Listings.{overlay-more, take-overlay}
-use Rattle.fit.proofs.Laws.Refusals.{profile-bad, profile-good, tolerance-bad, tolerance-good}
+use Rattle.fit.proofs.Laws.Refusals.{profile-good, tolerance-bad, tolerance-good, question-joined, search-joined}
 
 -- ---- tolerance
 pub tolerance-refused : (delta gamma : ℕ) → BadTolerance delta gamma
@@ -38,9 +38,10 @@ pub tolerance-refusal : (delta gamma : ℕ) → toleranceMade delta gamma .refus
 tolerance-refusal delta gamma = tolerance-number (ofTolerance delta gamma) delta gamma
 
 -- ---- profile
-pub profile-refused : (x : List ℕ) → BadProfile x → profileMade x ≡ record { refusal = 1; profile = record { points = replicate maxPoints 0; m = 0 } }
+-- refused by a reason's number, it is zeros
+pub profile-refused : (x : List ℕ) (num : ℕ) → ofProfile x ≡ suc num → profileMade x ≡ record { refusal = suc num; profile = record { points = replicate maxPoints 0; m = 0 } }
 unfolding madeProfile
-profile-refused x b = rw (profile-bad x b)
+profile-refused x num e = rw e
 
 pub profile-made : (x : List ℕ) → 1 ≤ length x → length x ≤ maxPoints
     → profileMade x ≡ record { refusal = 0; profile = record { points = overlay x (replicate maxPoints 0); m = length x } }
@@ -82,13 +83,11 @@ module _ (m delta gamma d : ℕ) (e : d ≡ dOf delta gamma) where
 -- ---- the checked input of a call: the numbers in their order, and what was made
 pub question-checked : (delta gamma num : ℕ) (x : List ℕ) (p : MadeProfile) (t : MadeTolerance) → p ≡ profileMade x → t ≡ toleranceMade delta gamma
     → num ≡ orElse (p .refusal) (t .refusal) → _≡_ {A = Checked} (record { refusal = num; profile = p .profile; tolerance = t .tolerance }) (questionChecked delta gamma x)
-unfolding questionRefusal
-question-checked delta gamma num x p t e f n = rw (n, e, f, profile-refusal x, tolerance-refusal delta gamma)
+question-checked delta gamma num x p t e f n = rw (n, e, f, profile-refusal x, tolerance-refusal delta gamma, question-joined delta gamma x)
 
 pub search-checked : (delta gamma num late : ℕ) (x y : List ℕ) (q : Checked) → q ≡ questionChecked delta gamma x → late ≡ ofRecording y
     → num ≡ orElse (q .refusal) late → _≡_ {A = Checked} (record { refusal = num; profile = q .profile; tolerance = q .tolerance }) (searchChecked delta gamma x y)
-unfolding searchRefusal
-search-checked delta gamma num late x y q e l n = rw (n, e, l)
+search-checked delta gamma num late x y q e l n = rw (n, e, l, search-joined delta gamma x y)
 
 -- ---- where the call is not refused, its checked input has the tolerances and the points that it was asked with
 pub record Carries (delta gamma : ℕ) (x : List ℕ) (q : Checked) : Type 0 where

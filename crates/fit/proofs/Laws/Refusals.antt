@@ -1,197 +1,213 @@
--- Laws of the refusal numbers: each is given exactly when document 01's table says so. Assumes nothing.
-use mathlib.Core.Path.{_≡_, refl, sym, _∙_}
-use mathlib.Core.Bool.{Bool, true, cond}
-use mathlib.Core.Logic.{_⊎_, inl, inr, ⊎-elim, _↔_}
-use mathlib.Core.List.{List}
-use Prim.Native.Nat.{ℕ, zero, suc, _≤_, _<_}
+-- Laws of the refusal numbers: each is given exactly when the documents say so, and where no reason that is written before it applies.
+-- Each is proved of the shortest chain that has it, and `ahead` and `behind` carry it to the longer ones. Assumes nothing.
+use mathlib.Core.Path.{_≡_, refl}
+use mathlib.Core.Bool.{true, false}
+use mathlib.Core.Logic.{inl, inr, ⊎-elim, _↔_, Iff·trans, Iff·and}
+use mathlib.Core.List.{List, [], _∷_}
+use Prim.Native.Nat.{ℕ, _≤_, _<_}
 use native.Mathlib.Omega.{arith}
 use lib.ListN.{length, getD}
-use lib.Dec.{eqb, ltb}
+use lib.Dec.{ltb}
 use borrow.Author.Tests.{eqb-true, ltb-true, eq-eqb, lt-ltb}
 use Rattle.fit.specs.Reading.{lowest}
-use Rattle.fit.specs.Refusal.{maxPoints, maxDelta, maxGamma, maxReadings, orElse, ofProfile, ofTolerance, ofRecording, questionRefusal, searchRefusal, BadProfile, BadTolerance, BadRecording, Asked, Accepted}
-use Rattle.fit.proofs.Laws.Bools.{or-cases, or-left, or-right, is-false, le-or-lt}
+use Rattle.fit.specs.Chain.{NoneApplies, FirstInOrder}
+use Rattle.fit.specs.Refusal.{maxPoints, maxDelta, maxGamma, maxReadings, noPoints, manyPoints, wideTolerance, manyReadings, profileReasons, questionReasons, searchReasons, orElse, ofProfile, ofTolerance, ofRecording, questionRefusal, searchRefusal, BadProfile, BadTolerance, BadRecording, Asked, Accepted}
+use Rattle.fit.proofs.Laws.Bools.{or-cases, or-left, or-right, at-most}
+use Rattle.fit.proofs.Laws.Chains.{has, behind, ahead, first-exactly, zero-exactly, in-order, given-small, joined, none-both, one-spared, more-spared}
 use Rattle.fit.proofs.Laws.Readings.{any-reading}
 
--- ---- the first of two numbers that is not 0
-pub else-first : (num k later : ℕ) → num ≡ suc k → orElse num later ≡ suc k
-unfolding orElse
-else-first num k later e = rw e
+-- ---- the tests, as facts
+empty-exactly : (x : List ℕ) → (noPoints x .applies ≡ true) ↔ (length x ≡ 0)
+empty-exactly x = (eqb-true (length x) 0, eq-eqb (length x) 0)
 
-pub else-later : (num later : ℕ) → num ≡ 0 → orElse num later ≡ later
-unfolding orElse
-else-later num later e = rw e
+many-exactly : (x : List ℕ) → (manyPoints x .applies ≡ true) ↔ (maxPoints < length x)
+many-exactly x = (ltb-true maxPoints (length x), lt-ltb maxPoints (length x))
 
-pub else-given : (num later : ℕ) → (num ≡ 0 → ⊥) → orElse num later ≡ num
-unfolding orElse
-else-given zero later h = absurd (h refl)
-else-given (suc num) later h = refl
+wide-exactly : (delta gamma : ℕ) → (wideTolerance delta gamma .applies ≡ true) ↔ BadTolerance delta gamma
+wide-exactly delta gamma = (
+  λ t. ⊎-elim (λ e. inl (ltb-true maxDelta delta e)) (λ e. inr (ltb-true maxGamma gamma e)) (or-cases (ltb maxDelta delta) (ltb maxGamma gamma) t),
+  ⊎-elim (λ h. or-left (ltb maxDelta delta) (ltb maxGamma gamma) (lt-ltb maxDelta delta h))
+      (λ h. or-right (ltb maxDelta delta) (ltb maxGamma gamma) (lt-ltb maxGamma gamma h)),
+)
 
--- as code has it, whose number k is that of the first reason
-pub first-given : (k num later : ℕ) → k ≡ num → (k ≡ 0 → ⊥) → k ≡ orElse num later
-first-given k num later e h = e ∙ sym (else-given num later (λ z. h (e ∙ z)))
+long-exactly : (y : List ℕ) → (manyReadings y .applies ≡ true) ↔ BadRecording y
+long-exactly y = (ltb-true maxReadings (length y), lt-ltb maxReadings (length y))
 
--- ---- the table's tests
-given : (t : Bool) (num : ℕ) → t ≡ true → cond t num 0 ≡ num
-given t num e = rw e
+profile-spared : (x : List ℕ) → NoneApplies (profileReasons x) ↔ (BadProfile x → ⊥)
+profile-spared x = more-spared (noPoints x) (manyPoints x ∷ []) (empty-exactly x) (one-spared (manyPoints x) (many-exactly x))
 
-spared : (t : Bool) (num : ℕ) → (t ≡ true → ⊥) → cond t num 0 ≡ 0
-spared t num h = rw (is-false t h)
+-- ---- a profile: 1 and 7
+module _ (x : List ℕ) where
+  -- "1 now only for m = 0"
+  pub profile-one-exactly : (ofProfile x ≡ 1) ↔ (length x ≡ 0)
+  unfolding ofProfile
+  profile-one-exactly = Iff·trans (first-exactly (noPoints x) (manyPoints x ∷ []) (omega arith) refl) (empty-exactly x)
 
-pub profile-bad : (x : List ℕ) → BadProfile x → ofProfile x ≡ 1
-unfolding ofProfile
-profile-bad x (inl e) = given _ 1 (or-left (eqb (length x) 0) (ltb maxPoints (length x)) (eq-eqb (length x) 0 e))
-profile-bad x (inr h) = given _ 1 (or-right (eqb (length x) 0) (ltb maxPoints (length x)) (lt-ltb maxPoints (length x) h))
+  -- "7 for m > 64", and no reason before it applies
+  pub profile-seven-exactly : (ofProfile x ≡ 7) ↔ ((length x ≡ 0 → ⊥) × (maxPoints < length x))
+  unfolding ofProfile
+  profile-seven-exactly =
+      Iff·trans (behind (noPoints x ∷ []) (manyPoints x ∷ []) 7 refl)
+      (Iff·and (one-spared (noPoints x) (empty-exactly x)) (Iff·trans (first-exactly (manyPoints x) [] (omega arith) refl) (many-exactly x)))
 
-pub profile-good : (x : List ℕ) → 1 ≤ length x → length x ≤ maxPoints → ofProfile x ≡ 0
-unfolding ofProfile
-profile-good x a b =
-    spared _ 1
-    (λ t. ⊎-elim (λ e. let z = eqb-true (length x) 0 e in omega arith) (λ e. let h = ltb-true maxPoints (length x) e in omega arith)
-    (or-cases (eqb (length x) 0) (ltb maxPoints (length x)) t))
+  pub profile-none-exactly : (ofProfile x ≡ 0) ↔ (BadProfile x → ⊥)
+  unfolding ofProfile
+  profile-none-exactly = Iff·trans (zero-exactly (profileReasons x) refl) (profile-spared x)
 
-pub tolerance-bad : (delta gamma : ℕ) → BadTolerance delta gamma → ofTolerance delta gamma ≡ 2
-unfolding ofTolerance
-tolerance-bad delta gamma (inl h) = given _ 2 (or-left (ltb maxDelta delta) (ltb maxGamma gamma) (lt-ltb maxDelta delta h))
-tolerance-bad delta gamma (inr h) = given _ 2 (or-right (ltb maxDelta delta) (ltb maxGamma gamma) (lt-ltb maxGamma gamma h))
+  pub profile-empty : length x ≡ 0 → ofProfile x ≡ 1
+  profile-empty = profile-one-exactly .1
 
-pub tolerance-good : (delta gamma : ℕ) → delta ≤ maxDelta → gamma ≤ maxGamma → ofTolerance delta gamma ≡ 0
-unfolding ofTolerance
-tolerance-good delta gamma a b =
-    spared _ 2
-    (λ t. ⊎-elim (λ e. let h = ltb-true maxDelta delta e in omega arith) (λ e. let h = ltb-true maxGamma gamma e in omega arith)
-    (or-cases (ltb maxDelta delta) (ltb maxGamma gamma) t))
+  pub profile-long : maxPoints < length x → ofProfile x ≡ 7
+  profile-long h = profile-seven-exactly .1 (λ e. omega arith, h)
 
-pub recording-bad : (y : List ℕ) → BadRecording y → ofRecording y ≡ 3
-unfolding ofRecording
-recording-bad y h = given _ 3 (lt-ltb maxReadings (length y) h)
+  pub profile-good : 1 ≤ length x → length x ≤ maxPoints → ofProfile x ≡ 0
+  profile-good a b = profile-none-exactly .1 (⊎-elim (λ e. omega arith) (λ h. omega arith))
 
-pub recording-good : (y : List ℕ) → length y ≤ maxReadings → ofRecording y ≡ 0
-unfolding ofRecording
-recording-good y h = spared _ 3 (λ t. let l = ltb-true maxReadings (length y) t in omega arith)
+-- ---- a tolerance: 2
+module _ (delta gamma : ℕ) where
+  tolerance-spared : NoneApplies (wideTolerance delta gamma ∷ []) ↔ (BadTolerance delta gamma → ⊥)
+  tolerance-spared = one-spared (wideTolerance delta gamma) (wide-exactly delta gamma)
 
--- ---- which reason applies first
-profile-or : (x : List ℕ) → BadProfile x ⊎ ((1 ≤ length x) × (length x ≤ maxPoints))
-profile-or x =
-    ⊎-elim (λ (l : length x ≤ 0). let z : length x ≡ 0 = omega arith in inl (inl z))
-    (λ (l : 0 < length x). ⊎-elim (λ (h : length x ≤ maxPoints). inr (l, h)) (λ (h : maxPoints < length x). inl (inr h)) (le-or-lt (length x) maxPoints))
-    (le-or-lt (length x) 0)
+  -- No. 2: "delta > 255 or gamma > 16,320"
+  pub tolerance-two-exactly : (ofTolerance delta gamma ≡ 2) ↔ BadTolerance delta gamma
+  unfolding ofTolerance
+  tolerance-two-exactly = Iff·trans (first-exactly (wideTolerance delta gamma) [] (omega arith) refl) (wide-exactly delta gamma)
 
-tolerance-or : (delta gamma : ℕ) → BadTolerance delta gamma ⊎ ((delta ≤ maxDelta) × (gamma ≤ maxGamma))
-tolerance-or delta gamma =
-    ⊎-elim
-    (λ (l : delta ≤ maxDelta). ⊎-elim (λ (h : gamma ≤ maxGamma). inr (l, h)) (λ (h : maxGamma < gamma). inl (inr h)) (le-or-lt gamma maxGamma))
-    (λ (l : maxDelta < delta). inl (inl l))
-    (le-or-lt delta maxDelta)
+  pub tolerance-bad : BadTolerance delta gamma → ofTolerance delta gamma ≡ 2
+  tolerance-bad = tolerance-two-exactly .1
 
-spares-profile : (delta gamma : ℕ) (x : List ℕ) → Asked delta gamma x → BadProfile x → ⊥
-spares-profile delta gamma x ok (inl e) = omega (arith, ok .some)
-spares-profile delta gamma x ok (inr h) = omega (arith, ok .few)
+  pub tolerance-good : delta ≤ maxDelta → gamma ≤ maxGamma → ofTolerance delta gamma ≡ 0
+  unfolding ofTolerance
+  tolerance-good a b = zero-exactly (wideTolerance delta gamma ∷ []) refl .1 (tolerance-spared .1 (⊎-elim (λ h. omega arith) (λ h. omega arith)))
 
-spares-tolerance : (delta gamma : ℕ) (x : List ℕ) → Asked delta gamma x → BadTolerance delta gamma → ⊥
-spares-tolerance delta gamma x ok (inl h) = omega (arith, ok .delta-small)
-spares-tolerance delta gamma x ok (inr h) = omega (arith, ok .gamma-small)
+-- ---- a recording: 3
+module _ (y : List ℕ) where
+  recording-spared : NoneApplies (manyReadings y ∷ []) ↔ (BadRecording y → ⊥)
+  recording-spared = one-spared (manyReadings y) (long-exactly y)
 
--- the three ways of a question, each with its number
+  -- No. 3: "n > 1,000,000"
+  pub recording-three-exactly : (ofRecording y ≡ 3) ↔ BadRecording y
+  unfolding ofRecording
+  recording-three-exactly = Iff·trans (first-exactly (manyReadings y) [] (omega arith) refl) (long-exactly y)
+
+  pub recording-bad : BadRecording y → ofRecording y ≡ 3
+  recording-bad = recording-three-exactly .1
+
+  pub recording-good : length y ≤ maxReadings → ofRecording y ≡ 0
+  unfolding ofRecording
+  recording-good h = zero-exactly (manyReadings y ∷ []) refl .1 (recording-spared .1 (λ l. omega arith))
+
+-- ---- a question: 1, 7, 2
 module _ (delta gamma : ℕ) (x : List ℕ) where
-  asked-one : BadProfile x → questionRefusal delta gamma x ≡ 1
-  unfolding questionRefusal
-  asked-one b = else-first (ofProfile x) 0 (ofTolerance delta gamma) (profile-bad x b)
+  both-spared : NoneApplies (questionReasons delta gamma x) ↔ ((BadProfile x → ⊥) × (BadTolerance delta gamma → ⊥))
+  both-spared = Iff·trans (none-both (profileReasons x) (wideTolerance delta gamma ∷ [])) (Iff·and (profile-spared x) (tolerance-spared delta gamma))
 
-  asked-ways : (BadProfile x × (questionRefusal delta gamma x ≡ 1))
-      ⊎ (((BadProfile x → ⊥) × BadTolerance delta gamma × (questionRefusal delta gamma x ≡ 2)) ⊎ (Asked delta gamma x × (questionRefusal delta gamma x ≡ 0)))
-  unfolding questionRefusal
-  asked-ways =
-      ⊎-elim (λ b. inl (b, asked-one b))
-      (λ g. let past = else-later (ofProfile x) (ofTolerance delta gamma) (profile-good x (g .0) (g .1)) in
-      let spared-one : BadProfile x → ⊥ = λ b. ⊎-elim (λ e. omega (arith, g .0)) (λ h. omega (arith, g .1)) b in
-      inr
-      (⊎-elim (λ b. inl (spared-one, b, past ∙ tolerance-bad delta gamma b))
-      (λ t. inr (record { some = g .0; few = g .1; delta-small = t .0; gamma-small = t .1 }, past ∙ tolerance-good delta gamma (t .0) (t .1)))
-      (tolerance-or delta gamma)))
-      (profile-or x)
+  asked-exactly : ((BadProfile x → ⊥) × (BadTolerance delta gamma → ⊥)) ↔ Asked delta gamma x
+  asked-exactly = (
+    λ none. record {
+      some = at-most 1 (length x) (λ h. none .0 (inl (let e : length x ≡ 0 = omega arith in e)));
+      few = at-most (length x) maxPoints (λ h. none .0 (inr h));
+      delta-small = at-most delta maxDelta (λ h. none .1 (inl h));
+      gamma-small = at-most gamma maxGamma (λ h. none .1 (inr h));
+    },
+    λ ok. (⊎-elim (λ e. omega (arith, ok .some)) (λ h. omega (arith, ok .few)), ⊎-elim (λ h. omega (arith, ok .delta-small)) (λ h. omega (arith, ok .gamma-small))),
+  )
 
-  -- a question that is not refused has what `Asked` says, and only such a one is not refused
+  pub question-spared : NoneApplies (questionReasons delta gamma x) ↔ Asked delta gamma x
+  question-spared = Iff·trans both-spared asked-exactly
+
+  -- "1 now only for m = 0"
+  pub asked-one-exactly : (questionRefusal delta gamma x ≡ 1) ↔ (length x ≡ 0)
+  unfolding questionRefusal ofProfile
+  asked-one-exactly = Iff·trans (ahead (profileReasons x) (wideTolerance delta gamma ∷ []) 1 (omega arith) refl) (profile-one-exactly x)
+
+  -- "7 for m > 64", and no reason before it applies
+  pub asked-seven-exactly : (questionRefusal delta gamma x ≡ 7) ↔ ((length x ≡ 0 → ⊥) × (maxPoints < length x))
+  unfolding questionRefusal ofProfile
+  asked-seven-exactly = Iff·trans (ahead (profileReasons x) (wideTolerance delta gamma ∷ []) 7 (omega arith) refl) (profile-seven-exactly x)
+
+  -- No. 2: "delta > 255 or gamma > 16,320", and no reason before it applies
+  pub asked-two-exactly : (questionRefusal delta gamma x ≡ 2) ↔ ((BadProfile x → ⊥) × BadTolerance delta gamma)
+  unfolding questionRefusal ofTolerance
+  asked-two-exactly =
+      Iff·trans (behind (profileReasons x) (wideTolerance delta gamma ∷ []) 2 refl) (Iff·and (profile-spared x) (tolerance-two-exactly delta gamma))
+
+  -- accepted otherwise
+  pub asked-none-exactly : (questionRefusal delta gamma x ≡ 0) ↔ Asked delta gamma x
+  unfolding questionRefusal
+  asked-none-exactly = Iff·trans (zero-exactly (questionReasons delta gamma x) refl) question-spared
+
   pub asked-accepted : questionRefusal delta gamma x ≡ 0 → Asked delta gamma x
-  asked-accepted z =
-      ⊎-elim (λ w. absurd (let e : _≡_ {A = ℕ} 1 0 = sym (w .1) ∙ z in omega arith))
-      (λ v. ⊎-elim (λ w. absurd (let e : _≡_ {A = ℕ} 2 0 = sym (w .2) ∙ z in omega arith)) (λ w. w .0) v)
-      asked-ways
+  asked-accepted = asked-none-exactly .0
 
   pub accepted-asked : Asked delta gamma x → questionRefusal delta gamma x ≡ 0
+  accepted-asked = asked-none-exactly .1
+
+  -- the first reason in the written order, whichever it is
+  pub question-in-order : (num : ℕ) → 1 ≤ num → (questionRefusal delta gamma x ≡ num) ↔ FirstInOrder (questionReasons delta gamma x) num
   unfolding questionRefusal
-  accepted-asked ok =
-      else-later (ofProfile x) (ofTolerance delta gamma) (profile-good x (ok .some) (ok .few)) ∙ tolerance-good delta gamma (ok .delta-small) (ok .gamma-small)
+  question-in-order = in-order (questionReasons delta gamma x)
+
+  -- as code has it
+  pub question-joined : questionRefusal delta gamma x ≡ orElse (ofProfile x) (ofTolerance delta gamma)
+  unfolding questionRefusal ofProfile ofTolerance
+  question-joined = joined (profileReasons x) (wideTolerance delta gamma ∷ []) refl
 
 -- every point of an accepted profile is a reading
 pub asked-real : (delta gamma : ℕ) (x : List ℕ) → Asked delta gamma x → (i : ℕ) → i < length x → lowest ≤ getD x i 0
 asked-real delta gamma x ok i h = any-reading (getD x i 0)
 
--- ---- the table: each number of a search exactly when
+-- ---- a search: 1, 7, 2, 3
 module _ (delta gamma : ℕ) (x y : List ℕ) where
-  later : Asked delta gamma x → searchRefusal delta gamma x y ≡ ofRecording y
-  unfolding searchRefusal
-  later ok = else-later (questionRefusal delta gamma x) (ofRecording y) (accepted-asked delta gamma x ok)
+  pub search-spared : NoneApplies (searchReasons delta gamma x y) ↔ Accepted delta gamma x y
+  search-spared =
+      Iff·trans (none-both (questionReasons delta gamma x) (manyReadings y ∷ []))
+      (Iff·trans (Iff·and (question-spared delta gamma x) (recording-spared y))
+      (λ h. record { asked = h .0; short = at-most (length y) maxReadings (h .1) }, λ ok. (ok .asked, λ l. omega (arith, ok .short))))
 
-  -- the four ways of a search, each with its number
-  pub ways : (BadProfile x × (searchRefusal delta gamma x y ≡ 1))
-      ⊎ (((BadProfile x → ⊥) × BadTolerance delta gamma × (searchRefusal delta gamma x y ≡ 2))
-      ⊎ ((Asked delta gamma x × BadRecording y × (searchRefusal delta gamma x y ≡ 3)) ⊎ (Accepted delta gamma x y × (searchRefusal delta gamma x y ≡ 0))))
-  unfolding searchRefusal
-  ways =
-      ⊎-elim (λ w. inl (w .0, else-first (questionRefusal delta gamma x) 0 (ofRecording y) (w .1)))
-      (λ v. inr
-      (⊎-elim (λ w. inl (w .0, w .1, else-first (questionRefusal delta gamma x) 1 (ofRecording y) (w .2)))
-      (λ w. inr
-      (⊎-elim (λ (l : length y ≤ maxReadings). inr (record { asked = w .0; short = l }, later (w .0) ∙ recording-good y l))
-      (λ (l : maxReadings < length y). inl (w .0, l, later (w .0) ∙ recording-bad y l))
-      (le-or-lt (length y) maxReadings)))
-      v))
-      (asked-ways delta gamma x)
+  -- a number of a question is given where the question would have it
+  as-question : (num : ℕ) → 1 ≤ num → has num (manyReadings y ∷ []) ≡ false → (searchRefusal delta gamma x y ≡ num) ↔ (questionRefusal delta gamma x ≡ num)
+  unfolding searchRefusal questionRefusal
+  as-question num some other = ahead (questionReasons delta gamma x) (manyReadings y ∷ []) num some other
 
-  -- a fact that holds each way holds
-  by-way : {A : Type 0} → (BadProfile x → searchRefusal delta gamma x y ≡ 1 → A)
-      → ((BadProfile x → ⊥) → BadTolerance delta gamma → searchRefusal delta gamma x y ≡ 2 → A)
-      → (Asked delta gamma x → BadRecording y → searchRefusal delta gamma x y ≡ 3 → A) → (Accepted delta gamma x y → searchRefusal delta gamma x y ≡ 0 → A) → A
-  by-way one two three none =
-      ⊎-elim (λ w. one (w .0) (w .1)) (λ v. ⊎-elim (λ w. two (w .0) (w .1) (w .2)) (λ u. ⊎-elim (λ w. three (w .0) (w .1) (w .2)) (λ w. none (w .0) (w .1)) u) v) ways
+  -- "1 now only for m = 0"
+  pub one-exactly : (searchRefusal delta gamma x y ≡ 1) ↔ (length x ≡ 0)
+  one-exactly = Iff·trans (as-question 1 (omega arith) refl) (asked-one-exactly delta gamma x)
 
-  -- No. 1: "m = 0 or m > 64"
-  pub one-exactly : (searchRefusal delta gamma x y ≡ 1) ↔ BadProfile x
-  one-exactly = (
-    λ e. by-way (λ b n. b) (λ a b n. absurd (omega (arith, e, n))) (λ a b n. absurd (omega (arith, e, n))) (λ a n. absurd (omega (arith, e, n))),
-    λ b. by-way (λ c n. n) (λ a c n. absurd (a b)) (λ a c n. absurd (spares-profile delta gamma x a b)) (λ a n. absurd (spares-profile delta gamma x (a .asked) b)),
-  )
+  -- "7 for m > 64", and no reason before it applies
+  pub seven-exactly : (searchRefusal delta gamma x y ≡ 7) ↔ ((length x ≡ 0 → ⊥) × (maxPoints < length x))
+  seven-exactly = Iff·trans (as-question 7 (omega arith) refl) (asked-seven-exactly delta gamma x)
 
-  -- No. 2: "delta > 255 or gamma > 16,320", and no lower number applies
+  -- No. 2: "delta > 255 or gamma > 16,320", and no reason before it applies
   pub two-exactly : (searchRefusal delta gamma x y ≡ 2) ↔ ((BadProfile x → ⊥) × BadTolerance delta gamma)
-  two-exactly = (
-    λ e. by-way (λ b n. absurd (omega (arith, e, n))) (λ a b n. (a, b)) (λ a b n. absurd (omega (arith, e, n))) (λ a n. absurd (omega (arith, e, n))),
-    λ b. by-way (λ c n. absurd (b .0 c)) (λ a c n. n) (λ a c n. absurd (spares-tolerance delta gamma x a (b .1))) (λ a n. absurd (spares-tolerance delta gamma x (a .asked) (b .1))),
-  )
+  two-exactly = Iff·trans (as-question 2 (omega arith) refl) (asked-two-exactly delta gamma x)
 
-  -- No. 3: "n > 1,000,000", and no lower number applies
+  -- No. 3: "n > 1,000,000", and no reason before it applies
   pub three-exactly : (searchRefusal delta gamma x y ≡ 3) ↔ ((BadProfile x → ⊥) × (BadTolerance delta gamma → ⊥) × BadRecording y)
-  three-exactly = (
-    λ e. by-way (λ b n. absurd (omega (arith, e, n))) (λ a b n. absurd (omega (arith, e, n)))
-        (λ a b n. (spares-profile delta gamma x a, spares-tolerance delta gamma x a, b)) (λ a n. absurd (omega (arith, e, n))),
-    λ b. by-way (λ c n. absurd (b .0 c)) (λ a c n. absurd (b .1 c)) (λ a c n. n) (λ a n. absurd (omega (arith, a .short, b .2))),
-  )
+  unfolding searchRefusal ofRecording
+  three-exactly =
+      Iff·trans
+      (Iff·trans (behind (questionReasons delta gamma x) (manyReadings y ∷ []) 3 refl) (Iff·and (both-spared delta gamma x) (recording-three-exactly y)))
+      (λ h. (h .0 .0, h .0 .1, h .1), λ h. ((h .0, h .1), h .2))
 
   -- accepted otherwise
   pub none-exactly : (searchRefusal delta gamma x y ≡ 0) ↔ Accepted delta gamma x y
-  none-exactly = (
-    λ e. by-way (λ b n. absurd (omega (arith, e, n))) (λ a b n. absurd (omega (arith, e, n))) (λ a b n. absurd (omega (arith, e, n))) (λ a n. a),
-    λ ok. later (ok .asked) ∙ recording-good y (ok .short),
-  )
-
-  -- "The lowest number that applies is given"
-  pub lowest-given : (BadProfile x → searchRefusal delta gamma x y ≤ 1) × (BadTolerance delta gamma → searchRefusal delta gamma x y ≤ 2) × (searchRefusal delta gamma x y ≤ 3)
-  lowest-given =
-      by-way (λ b n. (λ _. omega (arith, n), λ _. omega (arith, n), omega (arith, n)))
-      (λ a b n. (λ c. absurd (a c), λ _. omega (arith, n), omega (arith, n)))
-      (λ a b n. (λ c. absurd (spares-profile delta gamma x a c), λ c. absurd (spares-tolerance delta gamma x a c), omega (arith, n)))
-      (λ a n. (λ _. omega (arith, n), λ _. omega (arith, n), omega (arith, n)))
+  unfolding searchRefusal
+  none-exactly = Iff·trans (zero-exactly (searchReasons delta gamma x y) refl) search-spared
 
   pub accepted : searchRefusal delta gamma x y ≡ 0 → Accepted delta gamma x y
   accepted = none-exactly .0
+
+  -- the first reason in the written order, whichever it is
+  pub search-in-order : (num : ℕ) → 1 ≤ num → (searchRefusal delta gamma x y ≡ num) ↔ FirstInOrder (searchReasons delta gamma x y) num
+  unfolding searchRefusal
+  search-in-order = in-order (searchReasons delta gamma x y)
+
+  pub search-small : searchRefusal delta gamma x y ≤ 7
+  unfolding searchRefusal
+  search-small = given-small (searchReasons delta gamma x y)
+
+  -- as code has it
+  pub search-joined : searchRefusal delta gamma x y ≡ orElse (questionRefusal delta gamma x) (ofRecording y)
+  unfolding searchRefusal questionRefusal ofRecording
+  search-joined = joined (questionReasons delta gamma x) (manyReadings y ∷ []) refl

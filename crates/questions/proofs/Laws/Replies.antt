@@ -16,7 +16,7 @@ use Rattle.tables.specs.Holding.{Usable}
 use Rattle.tables.proofs.Laws.Holdings.{usable}
 use Rattle.questions.specs.declared.Jump.{Jump}
 use Rattle.questions.specs.Asking.{jumpAnswer, ofPoint, mismatchRefusal}
-use Rattle.questions.proofs.Laws.Askings.{refused-is, granted-is, MismatchAsked, mismatch-past}
+use Rattle.questions.proofs.Laws.Askings.{refused-is, granted-is, MismatchAsked, mismatch-past, mismatch-joined}
 
 -- by the number that the code has, which is the number of the refusal
 pub refused : (num number k : ℕ) {r : Jump} → number ≡ num → (number ≡ 0 → ⊥) → r ≡ record { refusal = number; jump = 0 } → r ≡ jumpAnswer num k
@@ -35,7 +35,7 @@ module _ (delta gamma : ℕ) (x : List ℕ) {q : Checked} (e : q ≡ questionChe
   question-refused k h a = refused _ _ k number-is h a
 
   pub mismatch-number : (p num late : ℕ) → late ≡ ofPoint (length x) p → num ≡ orElse (q .refusal) late → num ≡ mismatchRefusal delta gamma x p
-  mismatch-number p num late l n = n ∙ ap₂ orElse number-is l
+  mismatch-number p num late l n = n ∙ ap₂ orElse number-is l ∙ sym (mismatch-joined delta gamma x p)
 
   -- not refused, it has what its rule needs
   module _ (z : q .refusal ≡ 0) where

@@ -11,7 +11,7 @@ use Rattle.fit.specs.Listing.{places}
 use Rattle.fit.specs.Answer.{Sought, soughtOf, all, outcome}
 use Rattle.fit.proofs.Laws.Places.{in-places}
 use Rattle.fit.proofs.Laws.Answers.{sought-places, places-short, outcome-small}
-use Rattle.fit.proofs.Laws.Refusals.{none-exactly, lowest-given}
+use Rattle.fit.proofs.Laws.Refusals.{none-exactly, search-small}
 use Rattle.fit.proofs.Laws.Steps.{walk-short}
 use Rattle.packed.specs.Fourth.{packedRefusal}
 use Rattle.packed.proofs.Laws.Refusing.{packed-small, packed-exactly}
@@ -50,7 +50,7 @@ module _ (delta gamma : ℕ) (x y : List ℕ) (short : length y ≤ maxInput) wh
   common-short : (name : List ℕ) (tried : ℕ) → (Accepted delta gamma x y → tried ≤ 999999)
       → length (lineOf name (outcome (searchRefusal delta gamma x y) sought tried)) ≤ length name + 16
   common-short name tried small =
-      outcome-short name (searchRefusal delta gamma x y) sought tried (omega (arith, lowest-given delta gamma x y .2))
+      outcome-short name (searchRefusal delta gamma x y) sought tried (omega (arith, search-small delta gamma x y))
       (λ none. let ok = none-exactly delta gamma x y .0 none in (omega (arith, few-sought ok), small ok))
 
   plain-short : length (plainLine delta gamma x y) ≤ 21

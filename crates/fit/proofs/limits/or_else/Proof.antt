@@ -1,6 +1,6 @@
 -- `fit::limits::or_else` meets its contract. Assumes nothing.
 use mathlib.Core.Path.{sym}
-use Rattle.fit.proofs.Laws.Refusals.{else-given, else-later}
+use Rattle.fit.proofs.Laws.Chains.{else-given, else-later}
 use Rattle.fit.proofs.limits.or_else.Statement.{statement}
 use Rattle.fit.proofs.limits.or_else.Tie as tie
 

@@ -1,17 +1,17 @@
 -- `fit::limits::Profile::new` meets its contract: each return says which reason applied. Assumes nothing.
 use mathlib.Core.Path.{refl, sym}
-use mathlib.Core.Logic.{inl, inr}
 use native.Mathlib.Omega.{arith}
+use Rattle.fit.proofs.Laws.Refusals.{profile-empty, profile-long}
 use Rattle.fit.proofs.Laws.Constructed.{profile-refused, profile-made}
 use borrow.Author.Needs.{needs}
 use Rattle.fit.proofs.limits.Profile.new.Statement.{statement}
 use Rattle.fit.proofs.limits.Profile.new.Tie as tie
 
 returns : tie.Need-returns
-returns c = (sym (profile-refused _ (inl (c .if1 .taken))), (refl, refl))
+returns c = (sym (profile-refused _ 0 (profile-empty _ (c .if1 .taken))), (refl, refl))
 
 returns-2 : tie.Need-returns-2
-returns-2 c = (sym (profile-refused _ (inr (c .if2 .taken))), (refl, refl))
+returns-2 c = (sym (profile-refused _ 6 (profile-long _ (c .if2 .taken))), (refl, refl))
 
 held-points-requires : tie.Need-held-points-requires
 held-points-requires c κs = search needs
