@@ -1,16 +1,16 @@
 -- Laws of every chain of reasons: the number given is that of the first reason in the written order. They name no reason and no number, so
 -- that a reason more is a link more. Assumes nothing.
-use Prim.Native.Nat.{ℕ, zero, suc, _≤_, max}
+use Prim.Native.Nat.{ℕ, zero, suc, _≤_}
 use mathlib.Core.Path.{_≡_, refl, sym, ap, _∙_}
-use mathlib.Core.Bool.{Bool, true, false, cond, _||_}
+use mathlib.Core.Bool.{Bool, true, false, cond, _&&_, _||_}
 use mathlib.Core.Logic.{_⊎_, inl, inr, ⊎-elim, _↔_, Iff·rfl}
 use mathlib.Core.List.{List, [], _∷_, _++_, append-nil}
 use native.Mathlib.Omega.{arith}
-use lib.Dec.{eqb}
-use borrow.Author.Tests.{eqb-false}
+use lib.Dec.{eqb, leb}
+use borrow.Author.Tests.{eqb-false, leb-true}
 use Rattle.fit.specs.Chain.{Reason, firstReason, NoneApplies, FirstInOrder}
 use Rattle.fit.specs.Refusal.{orElse}
-use Rattle.fit.proofs.Laws.Bools.{not-both, is-false}
+use Rattle.fit.proofs.Laws.Bools.{and-left, and-right, not-both, is-false}
 
 -- ---- the first of two numbers that is not 0
 pub else-later : (num later : ℕ) → num ≡ 0 → orElse num later ≡ later
@@ -126,15 +126,16 @@ in-order chain num some = (there chain, back)
         ap firstReason (f .written) ∙ passed-by (f .before) (f .reason ∷ f .after) (f .none-before)
         ∙ link-given (f .reason .applies) (f .reason .number) (firstReason (f .after)) (f .applies) ∙ f .number
 
--- ---- the greatest number of a chain, which no number given exceeds
-abbrev pub greatestIn : List Reason → ℕ
-greatestIn [] = 0
-greatestIn (reason ∷ later) = max (reason .number) (greatestIn later)
+-- ---- how large a number can be that is given, where no number of the chain is larger
+abbrev pub atMost : ℕ → List Reason → Bool
+atMost most [] = true
+atMost most (reason ∷ later) = leb (reason .number) most && atMost most later
 
-pub given-small : (chain : List Reason) → firstReason chain ≤ greatestIn chain
-given-small [] = omega arith
-given-small (reason ∷ later) =
-    ⊎-elim (λ h. omega (arith, h .1)) (λ h. omega (arith, h .1, given-small later))
+pub given-small : (most : ℕ) (chain : List Reason) → atMost most chain ≡ true → firstReason chain ≤ most
+given-small most [] small = omega arith
+given-small most (reason ∷ later) small =
+    let l = leb-true (reason .number) most (and-left (leb (reason .number) most) (atMost most later) small) in
+    ⊎-elim (λ h. omega (arith, h .1)) (λ h. omega (arith, h .1, given-small most later (and-right (leb (reason .number) most) (atMost most later) small)))
     (link-cases (reason .applies) (reason .number) (firstReason later) (firstReason (reason ∷ later)) refl)
 
 -- ---- two chains, as code joins them: the first one's number, or else the later one's

@@ -3,7 +3,7 @@
 use mathlib.Core.Path.{_≡_, refl}
 use mathlib.Core.Bool.{true, false}
 use mathlib.Core.Logic.{inl, inr, ⊎-elim, _↔_, Iff·trans, Iff·and}
-use mathlib.Core.List.{List, [], _∷_}
+use mathlib.Core.List.{List, [], _∷_, tail}
 use Prim.Native.Nat.{ℕ, _≤_, _<_}
 use native.Mathlib.Omega.{arith}
 use lib.ListN.{length, getD}
@@ -36,19 +36,19 @@ long-exactly y = (ltb-true maxReadings (length y), lt-ltb maxReadings (length y)
 profile-spared : (x : List ℕ) → NoneApplies (profileReasons x) ↔ (BadProfile x → ⊥)
 profile-spared x = more-spared (noPoints x) (manyPoints x ∷ []) (empty-exactly x) (one-spared (manyPoints x) (many-exactly x))
 
--- ---- a profile: 1 and 7
+-- ---- a profile: 1 and 7, whatever is written after them
 module _ (x : List ℕ) where
   -- "1 now only for m = 0"
   pub profile-one-exactly : (ofProfile x ≡ 1) ↔ (length x ≡ 0)
   unfolding ofProfile
-  profile-one-exactly = Iff·trans (first-exactly (noPoints x) (manyPoints x ∷ []) (omega arith) refl) (empty-exactly x)
+  profile-one-exactly = Iff·trans (first-exactly (noPoints x) (tail (profileReasons x)) (omega arith) refl) (empty-exactly x)
 
   -- "7 for m > 64", and no reason before it applies
   pub profile-seven-exactly : (ofProfile x ≡ 7) ↔ ((length x ≡ 0 → ⊥) × (maxPoints < length x))
   unfolding ofProfile
   profile-seven-exactly =
-      Iff·trans (behind (noPoints x ∷ []) (manyPoints x ∷ []) 7 refl)
-      (Iff·and (one-spared (noPoints x) (empty-exactly x)) (Iff·trans (first-exactly (manyPoints x) [] (omega arith) refl) (many-exactly x)))
+      Iff·trans (behind (noPoints x ∷ []) (tail (profileReasons x)) 7 refl)
+      (Iff·and (one-spared (noPoints x) (empty-exactly x)) (Iff·trans (first-exactly (manyPoints x) (tail (tail (profileReasons x))) (omega arith) refl) (many-exactly x)))
 
   pub profile-none-exactly : (ofProfile x ≡ 0) ↔ (BadProfile x → ⊥)
   unfolding ofProfile
@@ -203,9 +203,10 @@ module _ (delta gamma : ℕ) (x y : List ℕ) where
   unfolding searchRefusal
   search-in-order = in-order (searchReasons delta gamma x y)
 
-  pub search-small : searchRefusal delta gamma x y ≤ 7
+  -- every number has one digit or two
+  pub search-small : searchRefusal delta gamma x y ≤ 99
   unfolding searchRefusal
-  search-small = given-small (searchReasons delta gamma x y)
+  search-small = given-small 99 (searchReasons delta gamma x y) refl
 
   -- as code has it
   pub search-joined : searchRefusal delta gamma x y ≡ orElse (questionRefusal delta gamma x) (ofRecording y)

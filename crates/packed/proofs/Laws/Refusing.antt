@@ -52,9 +52,10 @@ module _ (delta gamma : ℕ) (x y : List ℕ) where
   unfolding packedRefusal
   packed-in-order = in-order (packedReasons delta gamma x y)
 
-  pub packed-small : packedRefusal delta gamma x y ≤ 7
+  -- every number has one digit or two
+  pub packed-small : packedRefusal delta gamma x y ≤ 99
   unfolding packedRefusal
-  packed-small = given-small (packedReasons delta gamma x y)
+  packed-small = given-small 99 (packedReasons delta gamma x y) refl
 
   -- a number of the common table is kept
   packed-first : (searchRefusal delta gamma x y ≡ 0 → ⊥) → packedRefusal delta gamma x y ≡ searchRefusal delta gamma x y
