@@ -71,8 +71,8 @@ const KINDS: [fn(&mut Draw) -> Made; 16] = [
     refused,
 ];
 
-/// One case in so many is long: refused for its length, or as long as is accepted.
-const LONG_EVERY: usize = 400;
+/// One case in so many is long: refused, for its length or before that, or as long as is accepted.
+const LONG_EVERY: usize = 250;
 
 pub fn cases(count: usize, seed: u64) -> impl Iterator<Item = Case> {
     let sheet = sheet();
@@ -399,11 +399,11 @@ fn block_borders_all_near(draw: &mut Draw) -> Made {
     (profile(vec![reading(0); m], delta, gamma), recording)
 }
 
-const BAD_M: [usize; 6] = [0, 0, 65, 66, 128, 300];
+const BAD_M: [usize; 7] = [0, 0, 65, 65, 66, 128, 300];
 const BAD_DELTA: [u32; 5] = [256, 256, 257, 70_000, u32::MAX];
 const BAD_GAMMA: [u32; 5] = [16_321, 16_321, 16_322, 1 << 31, u32::MAX];
 
-/// Refusals 1, 2 and 4, alone and together, and the values next to them that are accepted.
+/// Refusals 1, 7, 2 and 4, alone and together, and the values next to them that are accepted.
 fn refused(draw: &mut Draw) -> Made {
     let m = if draw.from(0, 2) == 0 { draw.one_of(&BAD_M) } else { draw.one_of(&[1, 3, 64]) };
     let (delta, gamma) = match draw.from(0, 4) {
@@ -417,15 +417,18 @@ fn refused(draw: &mut Draw) -> Made {
     (profile(draw.readings(m, &ANY), delta, gamma), draw.readings(n, &ANY))
 }
 
-/// A recording that is too long by one, alone and with each other refusal, and one that is not.
+/// A recording that is too long by one, alone and with each other refusal and two of them, and one that is not.
 fn long_recording(draw: &mut Draw, turn: usize) -> Made {
     let (m, delta, gamma, n) = [
         (3, 1, 2, 1_000_001),
         (9, 3, 10, 1_000_000),
         (64, 255, 16_320, 1_000_001),
         (0, 1, 2, 1_000_001),
-        (3, 256, 16_321, 1_000_001),
-    ][turn % 5];
+        (65, 1, 2, 1_000_001),
+        (64, 256, 16_321, 1_000_001),
+        (0, 256, 16_321, 1_000_001),
+        (65, 256, 16_321, 1_000_001),
+    ][turn % 8];
     let alphabet = &ANY[40..50];
     (profile(draw.readings(m, alphabet), delta, gamma), draw.readings(n, alphabet))
 }
@@ -480,6 +483,34 @@ mod coverage {
         ]
     }
 
+    /// Which refusal is given for the points, and what else could have been refused.
+    fn refusal_situations(case: &Case) -> Vec<(&'static str, bool)> {
+        let (m, long) = (case.profile.points.len(), case.recording.len() > 1_000_000);
+        let bad = case.profile.delta > 255 || case.profile.gamma > 16_320;
+        let (alone, or_2, or_3, or_both) = (!bad && !long, bad && !long, !bad && long, bad && long);
+        let refusal = refusal_of_search(Searcher::Packed, &case.profile, &case.recording);
+        assert_eq!((refusal == 1, refusal == 7), (m == 0, m > 64), "{}", frames::describe(case));
+        vec![
+            ("refusal 1", refusal == 1 && alone),
+            ("refusal 1 before 2", refusal == 1 && or_2),
+            ("refusal 7, 65 points", refusal == 7 && m == 65 && alone),
+            ("refusal 7, more points", refusal == 7 && m > 65 && alone),
+            ("refusal 7 before 2, 65 points", refusal == 7 && m == 65 && or_2),
+            ("refusal 7 before 2, more points", refusal == 7 && m > 65 && or_2),
+            ("refusal 2, fewer points", refusal == 2 && m < 64 && or_2),
+            ("refusal 2, 64 points", refusal == 2 && m == 64 && or_2),
+            ("refusal 4", refusal == 4),
+            ("no refusal, 64 points", refusal == 0 && m == 64),
+            ("long: refusal 1 before 3", refusal == 1 && or_3),
+            ("long: refusal 1 before 2 and 3", refusal == 1 && or_both),
+            ("long: refusal 7 before 3, 65 points", refusal == 7 && m == 65 && or_3),
+            ("long: refusal 7 before 2 and 3, 65 points", refusal == 7 && m == 65 && or_both),
+            ("long: refusal 2 before 3, 64 points", refusal == 2 && m == 64 && or_both),
+            ("long: refusal 3, fewer points", refusal == 3 && m < 64),
+            ("long: refusal 3, 64 points", refusal == 3 && m == 64),
+        ]
+    }
+
     /// Where the first place stands, what is tried before it or without it, and why there is no answer.
     fn first_situations(case: &Case) -> Vec<(&'static str, bool)> {
         let (m, n) = (case.profile.points.len() as i64, case.recording.len() as i64);
@@ -489,6 +520,7 @@ mod coverage {
         let none = refusal == 0 && place.is_none();
         vec![
             ("first: refused 1", refusal == 1),
+            ("first: refused 7", refusal == 7),
             ("first: refused 2", refusal == 2),
             ("first: refused 3", refusal == 3),
             ("first: at 0", place == Some(0)),
@@ -514,18 +546,12 @@ mod coverage {
             let (delta, gamma) = (case.profile.delta, case.profile.gamma);
             let accepted = refusal_of_profile(&case.profile) == 0;
             let mut meets = |situation: &'static str, yes: bool| *met.entry(situation).or_insert(0) += yes as usize;
-            for (refusal, name) in [(1, "refusal 1"), (2, "refusal 2"), (3, "refusal 3"), (4, "refusal 4")] {
-                meets(name, refusal_of_search(Searcher::Packed, &case.profile, &case.recording) == refusal);
-            }
-            for (situation, yes) in first_situations(&case) {
+            for (situation, yes) in refusal_situations(&case).into_iter().chain(first_situations(&case)) {
                 meets(situation, yes);
             }
-            meets("two refusals", (m == 0 || m > 64) && (delta > 255 || gamma > 16_320));
             meets("delta greatest", delta == u32::MAX);
             meets("gamma just too great", gamma == 16_321);
-            meets("m is 0", m == 0);
-            meets("m is 65", m == 65);
-            meets("n is the greatest", n == 1_000_000);
+            meets("long: n is the greatest", n == 1_000_000);
             if !accepted || n > 1_000_000 {
                 continue;
             }
@@ -565,7 +591,8 @@ mod coverage {
             println!("{count:5} {situation}");
             // long recordings are few, since they take most of the time
             let least = match situation {
-                "refusal 3" | "first: refused 3" | "n is the greatest" => 1,
+                "first: refused 3" => 1,
+                _ if situation.starts_with("long") => 1,
                 _ if situation.starts_with("block") => 8,
                 _ => 3,
             };
