@@ -47,13 +47,17 @@ static void search(const char *name, searcher ask, size_t tried)
     }
 }
 
-/* Refusals 1 to 3, the lowest that applies, by numbers that a narrower type would cut to allowed ones too; the list stays as it was. */
+/* Refusals 1, 7, 2 and 3, the first that applies in this order, also by numbers that a narrower type would cut to allowed ones or to no
+ * points; the list stays as it was. */
 static void search_refused(const char *name, searcher ask)
 {
     uint32_t list[1] = {9};
+    hold(name, is(ask(NULL, 0, 1, 2, L, 14, list, 1), 1, 0, 0));
     hold(name, is(ask(NULL, 0, 256, 16321, many, 1000001, list, 1), 1, 0, 0));
-    hold(name, is(ask(many, 65, 1, 2, L, 14, list, 1), 1, 0, 0));
-    hold(name, is(ask(many, 65537, 1, 2, L, 14, list, 1), 1, 0, 0));
+    hold(name, is(ask(many, 65, 1, 2, L, 14, list, 1), 7, 0, 0));
+    hold(name, is(ask(many, 65, 256, 16321, many, 1000001, list, 1), 7, 0, 0));
+    hold(name, is(ask(many, 65536, 1, 2, L, 14, list, 1), 7, 0, 0));
+    hold(name, is(ask(many, 65537, 1, 2, L, 14, list, 1), 7, 0, 0));
     hold(name, is(ask(P, 3, 256, 2, many, 1000001, list, 1), 2, 0, 0));
     hold(name, is(ask(P, 3, 65537, 2, L, 14, list, 1), 2, 0, 0));
     hold(name, is(ask(P, 3, 1, 16321, L, 14, list, 1), 2, 0, 0));
@@ -92,12 +96,15 @@ static void first(void)
     hold("first, far on", tells(jilbaroof_first((const uint8_t[]){9, 0, 0}, 3, 0, 0, late, 1000000), 0, 1, 999997, 999996));
 }
 
-/* Refusals 1 to 3, as the searchers have them. */
+/* Refusals 1, 7, 2 and 3, as the searchers have them. */
 static void first_refused(void)
 {
+    hold("first, 1", tells(jilbaroof_first(NULL, 0, 1, 2, L, 14), 1, 0, 0, 0));
     hold("first, 1", tells(jilbaroof_first(NULL, 0, 256, 16321, many, 1000001), 1, 0, 0, 0));
-    hold("first, 1", tells(jilbaroof_first(many, 65, 1, 2, L, 14), 1, 0, 0, 0));
-    hold("first, 1", tells(jilbaroof_first(many, 65537, 1, 2, L, 14), 1, 0, 0, 0));
+    hold("first, 7", tells(jilbaroof_first(many, 65, 1, 2, L, 14), 7, 0, 0, 0));
+    hold("first, 7", tells(jilbaroof_first(many, 65, 256, 16321, many, 1000001), 7, 0, 0, 0));
+    hold("first, 7", tells(jilbaroof_first(many, 65536, 1, 2, L, 14), 7, 0, 0, 0));
+    hold("first, 7", tells(jilbaroof_first(many, 65537, 1, 2, L, 14), 7, 0, 0, 0));
     hold("first, 2", tells(jilbaroof_first(P, 3, 256, 2, many, 1000001), 2, 0, 0, 0));
     hold("first, 2", tells(jilbaroof_first(P, 3, 65537, 2, L, 14), 2, 0, 0, 0));
     hold("first, 2", tells(jilbaroof_first(P, 3, 1, 16321, L, 14), 2, 0, 0, 0));
@@ -115,7 +122,7 @@ static void first_limits(void)
     hold("first, widest", tells(jilbaroof_first(P, 3, 255, 16320, L + 1, 13), 0, 1, 0, 1));
 }
 
-/* The questions as functions of the profile and the tolerances alone. Point 0 would be refused by 6, and 1 and 2 come first. */
+/* The questions as functions of the profile and the tolerances alone. Point 0 would be refused by 6, and 1, 7 and 2 come first. */
 static jilbaroof_jump last_reading(const uint8_t *points, size_t m, uint32_t delta, uint32_t gamma)
 {
     return jilbaroof_last_reading(points, m, delta, gamma, 44);
@@ -133,8 +140,12 @@ static jilbaroof_jump mismatch(const uint8_t *points, size_t m, uint32_t delta, 
 
 static void question_refused(const char *name, question ask)
 {
+    hold(name, says(ask(NULL, 0, 1, 2), 1, 0));
     hold(name, says(ask(NULL, 0, 256, 16321), 1, 0));
-    hold(name, says(ask(many, 65, 1, 2), 1, 0));
+    hold(name, says(ask(many, 65, 1, 2), 7, 0));
+    hold(name, says(ask(many, 65, 256, 16321), 7, 0));
+    hold(name, says(ask(many, 65536, 1, 2), 7, 0));
+    hold(name, says(ask(many, 65537, 1, 2), 7, 0));
     hold(name, says(ask(P, 3, 256, 2), 2, 0));
     hold(name, says(ask(P, 3, 65537, 2), 2, 0));
     hold(name, says(ask(P, 3, 1, 16321), 2, 0));

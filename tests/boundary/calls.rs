@@ -17,12 +17,16 @@ fn search(name: &str, ask: Searcher, tried: usize) {
     assert_eq!(ask(&P, 1, 2, &L, &mut []).total, 2, "{name}");
 }
 
-/// Refusals 1 to 3, the lowest that applies, by numbers that a narrower type would cut to allowed ones too.
-fn refusals(many: &[u8]) -> [(u32, &[u8], u32, u32, &[u8]); 8] {
+/// Refusals 1, 7, 2 and 3, the first that applies in this order, also by numbers that a narrower type would cut to allowed ones or to no
+/// points.
+fn refusals(many: &[u8]) -> [(u32, &[u8], u32, u32, &[u8]); 11] {
     [
+        (1, &P[..0], 1, 2, &L),
         (1, &P[..0], 256, 16_321, many),
-        (1, &many[..65], 1, 2, &L),
-        (1, &many[..65_537], 1, 2, &L),
+        (7, &many[..65], 1, 2, &L),
+        (7, &many[..65], 256, 16_321, many),
+        (7, &many[..65_536], 1, 2, &L),
+        (7, &many[..65_537], 1, 2, &L),
         (2, &P, 256, 2, many),
         (2, &P, 65_537, 2, &L),
         (2, &P, 1, 16_321, &L),
@@ -74,7 +78,7 @@ fn first() {
     }
 }
 
-/// As for the searchers: refusals 1 to 3, and what is just allowed.
+/// As for the searchers: refusals 1, 7, 2 and 3, and what is just allowed.
 fn first_limits(many: &[u8]) {
     for (number, points, delta, gamma, recording) in refusals(many) {
         let refused = First { refusal: number, spot: None, tried: 0 };
@@ -90,8 +94,12 @@ fn first_limits(many: &[u8]) {
 
 fn question_refused(ask: fn(&[u8], u32, u32) -> Jump) {
     for (number, points, delta, gamma) in [
+        (1, &[][..], 1, 2),
         (1, &[][..], 256, 16_321),
-        (1, &[0; 65][..], 1, 2),
+        (7, &[0; 65][..], 1, 2),
+        (7, &[0; 65][..], 256, 16_321),
+        (7, &[0; 65_536][..], 1, 2),
+        (7, &[0; 65_537][..], 1, 2),
         (2, &P[..], 256, 2),
         (2, &P[..], 65_537, 2),
         (2, &P[..], 1, 16_321),
