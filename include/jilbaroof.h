@@ -13,9 +13,10 @@
  * Where a length is 0, nothing is read or written through its pointer, which may be NULL.
  * The functions have no state and may be called from several threads at once. They are compiled for 64-bit processors: size_t has 64 bits.
  *
- * Refusals: the lowest number that applies. A refused call answers 0 in every other field and leaves the list as it was.
- *   0  accepted
- *   1  the profile has no points, or more than 64
+ * Refusals: the first reason that applies, in this order; 0 where none does. A refused call answers 0 in every other field and leaves
+ * the list as it was.
+ *   1  the profile has no points: usually no file was chosen
+ *   7  the profile has more than 64 points, and must be cut
  *   2  delta is above 255, or gamma above 16,320
  *   3  the recording has more than 1,000,000 readings (searchers and jilbaroof_first)
  *   4  the counters do not fit one word: m times their width exceeds 64 (jilbaroof_packed). The width is 1 + b, b the least with 2^b

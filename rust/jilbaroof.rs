@@ -2,9 +2,17 @@
 //! or it is a module of the crate that links the archive (README, "From C and Rust").
 //!
 //! Which side checks what. The library checks every value (points, tolerances, lengths, point numbers) and answers or refuses by a
-//! number, which README lists; that each answer is the one its definition gives is proved. What it takes for granted is memory: that a
-//! slice is valid for its length, and that the lent list shares no memory with what is read. Rust's types guarantee just that, so nothing
-//! is checked here, and every function is safe for every argument. The calls below are the only `unsafe` code.
+//! number (below); that each answer is the one its definition gives is proved. What it takes for granted is memory: that a slice is valid
+//! for its length, and that the lent list shares no memory with what is read. Rust's types guarantee just that, so nothing is checked
+//! here, and every function is safe for every argument. The calls below are the only `unsafe` code.
+//!
+//! Refusals: the first reason that applies, in this order; 0 where none does.
+//! - 1: the profile has no points: usually no file was chosen
+//! - 7: the profile has more than 64 points, and must be cut
+//! - 2: delta is above 255, or gamma above 16,320
+//! - 3: the recording has more than 1,000,000 readings (searchers and `first`)
+//! - 4: the counters do not fit one word (`packed`)
+//! - 6: there is no point of that number (`mismatch`)
 
 // as a module it may have functions that its crate does not use
 #![allow(dead_code)]
