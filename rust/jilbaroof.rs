@@ -13,6 +13,8 @@
 //! - 3: the recording has more than 1,000,000 readings (searchers and `first`)
 //! - 4: the counters do not fit one word (`packed`)
 //! - 6: there is no point of that number (`mismatch`)
+//!
+//! (5 belongs to the program `places` and is never given here.)
 
 // as a module it may have functions that its crate does not use
 #![allow(dead_code)]

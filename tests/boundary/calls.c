@@ -146,6 +146,8 @@ static void question_refused(const char *name, question ask)
     hold(name, says(ask(many, 65, 256, 16321), 7, 0));
     hold(name, says(ask(many, 65536, 1, 2), 7, 0));
     hold(name, says(ask(many, 65537, 1, 2), 7, 0));
+    /* 64 points are not too many: the next reason is mismatch's own */
+    hold(name, ask(many, 64, 255, 16320).refusal == (ask == mismatch ? 6 : 0));
     hold(name, says(ask(P, 3, 256, 2), 2, 0));
     hold(name, says(ask(P, 3, 65537, 2), 2, 0));
     hold(name, says(ask(P, 3, 1, 16321), 2, 0));

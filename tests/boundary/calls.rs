@@ -92,7 +92,9 @@ fn first_limits(many: &[u8]) {
     assert_eq!(jilbaroof::first(&P, 255, 16_320, &L[1..]), found(Some(0), 1));
 }
 
-fn question_refused(ask: fn(&[u8], u32, u32) -> Jump) {
+/// `last` is the refusal that 64 points leave to the question: none, or mismatch's own.
+fn question_refused(ask: fn(&[u8], u32, u32) -> Jump, last: u32) {
+    assert_eq!(ask(&[0; 64], 255, 16_320).refusal, last);
     for (number, points, delta, gamma) in [
         (1, &[][..], 1, 2),
         (1, &[][..], 256, 16_321),
@@ -129,11 +131,11 @@ fn main() {
     first();
     first_limits(&many);
 
-    question_refused(|x, delta, gamma| jilbaroof::last_reading(x, delta, gamma, 44));
-    question_refused(|x, delta, gamma| jilbaroof::next_reading(x, delta, gamma, 44));
-    question_refused(jilbaroof::after_check);
-    question_refused(jilbaroof::full);
-    question_refused(|x, delta, gamma| jilbaroof::mismatch(x, delta, gamma, 0));
+    question_refused(|x, delta, gamma| jilbaroof::last_reading(x, delta, gamma, 44), 0);
+    question_refused(|x, delta, gamma| jilbaroof::next_reading(x, delta, gamma, 44), 0);
+    question_refused(jilbaroof::after_check, 0);
+    question_refused(jilbaroof::full, 0);
+    question_refused(|x, delta, gamma| jilbaroof::mismatch(x, delta, gamma, 0), 6);
     let jump = |jump| Jump { refusal: 0, jump };
     let refused = |refusal| Jump { refusal, jump: 0 };
     for (a, k) in [(44, 0), (41, 1), (40, 2), (70, 3)] {

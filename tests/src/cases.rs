@@ -483,7 +483,7 @@ mod coverage {
         ]
     }
 
-    /// Which refusal is given for the points, and what else could have been refused.
+    /// Which refusal a search has, and which later ones stand behind it.
     fn refusal_situations(case: &Case) -> Vec<(&'static str, bool)> {
         let (m, long) = (case.profile.points.len(), case.recording.len() > 1_000_000);
         let bad = case.profile.delta > 255 || case.profile.gamma > 16_320;

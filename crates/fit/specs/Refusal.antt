@@ -27,11 +27,11 @@ orElse zero later = later
 orElse (suc num) later = suc num
 
 -- ---- the reasons
--- "1 now only for m = 0"
+-- #102: "1 now only for m = 0"
 abbrev pub noPoints : List ℕ → Reason
 noPoints x = record { number = 1; applies = eqb (length x) 0 }
 
--- "7 for m > 64"
+-- #102: "7 for m > 64"
 abbrev pub manyPoints : List ℕ → Reason
 manyPoints x = record { number = 7; applies = ltb maxPoints (length x) }
 
@@ -43,7 +43,7 @@ wideTolerance delta gamma = record { number = 2; applies = ltb maxDelta delta ||
 abbrev pub manyReadings : List ℕ → Reason
 manyReadings y = record { number = 3; applies = ltb maxReadings (length y) }
 
--- ---- the order in which they are written: 7 is "tested directly after 1"
+-- ---- the order in which they are written. #102: 7 is "tested directly after 1"
 abbrev pub profileReasons : List ℕ → List Reason
 profileReasons x = noPoints x ∷ manyPoints x ∷ []
 

@@ -199,7 +199,7 @@ fn of_recording(recording: &[u8]) -> u32
     }
 }
 
-// The first of two numbers that is not 0: the order of the refusals is a chain of these.
+// The first of two numbers that is not 0, by which a call joins the numbers of its parts in their order.
 pub fn or_else(first: u32, later: u32) -> u32
     ensures { λ r. ⌜ r ≡ orElse first later ⌝ }
 {

@@ -58,12 +58,12 @@ absent num (reason ∷ later) some other e =
 
 -- ---- what is written before a chain, and what is written after it
 -- reasons that do not apply are passed
-pub passed-by : (before chain : List Reason) → NoneApplies before → firstReason (before ++ chain) ≡ firstReason chain
+passed-by : (before chain : List Reason) → NoneApplies before → firstReason (before ++ chain) ≡ firstReason chain
 passed-by [] chain none = refl
 passed-by (reason ∷ before) chain none =
     link-passed (reason .applies) (reason .number) (firstReason (before ++ chain)) (none .0) ∙ passed-by before chain (none .1)
 
--- a number that none of the reasons before has is given where none of them applies, and the chain gives it
+-- a number that none of the reasons before has is given exactly where none of them applies and the chain gives it
 pub behind : (before chain : List Reason) (num : ℕ) → has num before ≡ false
     → (firstReason (before ++ chain) ≡ num) ↔ (NoneApplies before × (firstReason chain ≡ num))
 behind before chain num other = (there before other, λ given. passed-by before chain (given .0) ∙ given .1)
@@ -75,7 +75,7 @@ behind before chain num other = (there before other, λ given. passed-by before 
         (λ h. let more = there before (not-later num reason before other) (h .1) in ((h .0, more .0), more .1))
         (link-cases (reason .applies) (reason .number) (firstReason (before ++ chain)) num e)
 
--- a number that none of the reasons after has is given where the chain gives it
+-- a number that none of the reasons after has is given exactly where the chain gives it
 pub ahead : (chain after : List Reason) (num : ℕ) → 1 ≤ num → has num after ≡ false → (firstReason (chain ++ after) ≡ num) ↔ (firstReason chain ≡ num)
 ahead [] after num some other = (λ e. absurd (absent num after some other e), λ e. absurd (omega arith))
 ahead (reason ∷ chain) after num some other = same-later (reason .applies) (ahead chain after num some other)
@@ -95,7 +95,7 @@ first-exactly reason after some other = (
   link-given (reason .applies) (reason .number) (firstReason after),
 )
 
--- 0, where none applies
+-- 0, exactly where none applies
 pub zero-exactly : (chain : List Reason) → has 0 chain ≡ false → (firstReason chain ≡ 0) ↔ NoneApplies chain
 zero-exactly chain other =
     let all : (firstReason chain ≡ 0) ↔ (NoneApplies chain × (_≡_ {A = ℕ} 0 0)) = rw (append-nil chain) at (behind chain [] 0 other) in

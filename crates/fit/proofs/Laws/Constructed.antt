@@ -39,9 +39,10 @@ tolerance-refusal delta gamma = tolerance-number (ofTolerance delta gamma) delta
 
 -- ---- profile
 -- refused by a reason's number, it is zeros
-pub profile-refused : (x : List ℕ) (num : ℕ) → ofProfile x ≡ suc num → profileMade x ≡ record { refusal = suc num; profile = record { points = replicate maxPoints 0; m = 0 } }
+pub profile-refused : (x : List ℕ) (num : ℕ) → 1 ≤ num → ofProfile x ≡ num → profileMade x ≡ record { refusal = num; profile = record { points = replicate maxPoints 0; m = 0 } }
 unfolding madeProfile
-profile-refused x num e = rw e
+profile-refused x zero some e = absurd (omega arith)
+profile-refused x (suc num) some e = rw e
 
 pub profile-made : (x : List ℕ) → 1 ≤ length x → length x ≤ maxPoints
     → profileMade x ≡ record { refusal = 0; profile = record { points = overlay x (replicate maxPoints 0); m = length x } }

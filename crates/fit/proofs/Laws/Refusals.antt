@@ -140,9 +140,6 @@ module _ (delta gamma : ℕ) (x : List ℕ) where
   pub asked-accepted : questionRefusal delta gamma x ≡ 0 → Asked delta gamma x
   asked-accepted = asked-none-exactly .0
 
-  pub accepted-asked : Asked delta gamma x → questionRefusal delta gamma x ≡ 0
-  accepted-asked = asked-none-exactly .1
-
   -- the first reason in the written order, whichever it is
   pub question-in-order : (num : ℕ) → 1 ≤ num → (questionRefusal delta gamma x ≡ num) ↔ FirstInOrder (questionReasons delta gamma x) num
   unfolding questionRefusal
@@ -165,7 +162,7 @@ module _ (delta gamma : ℕ) (x y : List ℕ) where
       (Iff·trans (Iff·and (question-spared delta gamma x) (recording-spared y))
       (λ h. record { asked = h .0; short = at-most (length y) maxReadings (h .1) }, λ ok. (ok .asked, λ l. omega (arith, ok .short))))
 
-  -- a number of a question is given where the question would have it
+  -- a number of a question is given exactly where the question would have it
   as-question : (num : ℕ) → 1 ≤ num → has num (manyReadings y ∷ []) ≡ false → (searchRefusal delta gamma x y ≡ num) ↔ (questionRefusal delta gamma x ≡ num)
   unfolding searchRefusal questionRefusal
   as-question num some other = ahead (questionReasons delta gamma x) (manyReadings y ∷ []) num some other

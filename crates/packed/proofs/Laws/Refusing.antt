@@ -30,7 +30,7 @@ module _ (delta gamma : ℕ) (x y : List ℕ) where
       Iff·trans (behind (searchReasons delta gamma x y) (wideCounters delta gamma x ∷ []) 4 refl)
       (Iff·and (search-spared delta gamma x y) (Iff·trans (first-exactly (wideCounters delta gamma x) [] (omega arith) refl) wide-exactly))
 
-  -- every other number is given where every search would have it
+  -- every other number is given exactly where every search would have it
   pub packed-common : (num : ℕ) → 1 ≤ num → has num (wideCounters delta gamma x ∷ []) ≡ false
       → (packedRefusal delta gamma x y ≡ num) ↔ (searchRefusal delta gamma x y ≡ num)
   unfolding packedRefusal searchRefusal

@@ -29,22 +29,22 @@ granted-is number k z = rw z
 
 -- ---- a point number: 6
 module _ (m p : ℕ) where
-  absent-exactly : (noPoint m p .applies ≡ true) ↔ BadPoint m p
-  absent-exactly = (
+  no-point-exactly : (noPoint m p .applies ≡ true) ↔ BadPoint m p
+  no-point-exactly = (
     λ t. ⊎-elim (λ e. inl (eqb-true p 0 e)) (λ e. inr (ltb-true m p e)) (or-cases (eqb p 0) (ltb m p) t),
     ⊎-elim (λ e. or-left (eqb p 0) (ltb m p) (eq-eqb p 0 e)) (λ h. or-right (eqb p 0) (ltb m p) (lt-ltb m p h)),
   )
 
   point-six-exactly : (ofPoint m p ≡ 6) ↔ BadPoint m p
   unfolding ofPoint
-  point-six-exactly = Iff·trans (first-exactly (noPoint m p) [] (omega arith) refl) absent-exactly
+  point-six-exactly = Iff·trans (first-exactly (noPoint m p) [] (omega arith) refl) no-point-exactly
 
   pub point-bad : BadPoint m p → ofPoint m p ≡ 6
   point-bad = point-six-exactly .1
 
   pub point-good : (p ≡ 0 → ⊥) → p ≤ m → ofPoint m p ≡ 0
   unfolding ofPoint
-  point-good a b = zero-exactly (noPoint m p ∷ []) refl .1 (one-spared (noPoint m p) absent-exactly .1 (⊎-elim a (λ h. omega arith)))
+  point-good a b = zero-exactly (noPoint m p ∷ []) refl .1 (one-spared (noPoint m p) no-point-exactly .1 (⊎-elim a (λ h. omega arith)))
 
 -- what is known where the mismatch question is not refused
 pub record MismatchAsked (delta gamma : ℕ) (x : List ℕ) (p : ℕ) : Type 0 where
@@ -54,7 +54,7 @@ pub record MismatchAsked (delta gamma : ℕ) (x : List ℕ) (p : ℕ) : Type 0 w
 
 -- ---- the mismatch question: 1, 7, 2, 6
 module _ (delta gamma : ℕ) (x : List ℕ) (p : ℕ) where
-  -- a number of every question is given where every question would have it
+  -- a number of every question is given exactly where every question would have it
   as-question : (num : ℕ) → 1 ≤ num → has num (noPoint (length x) p ∷ []) ≡ false → (mismatchRefusal delta gamma x p ≡ num) ↔ (questionRefusal delta gamma x ≡ num)
   unfolding mismatchRefusal questionRefusal
   as-question num some other = ahead (questionReasons delta gamma x) (noPoint (length x) p ∷ []) num some other
@@ -83,7 +83,7 @@ module _ (delta gamma : ℕ) (x : List ℕ) (p : ℕ) where
   mismatch-none-exactly =
       Iff·trans (zero-exactly (mismatchReasons delta gamma x p) refl)
       (Iff·trans (none-both (questionReasons delta gamma x) (noPoint (length x) p ∷ []))
-      (Iff·trans (Iff·and (question-spared delta gamma x) (one-spared (noPoint (length x) p) (absent-exactly (length x) p))) (
+      (Iff·trans (Iff·and (question-spared delta gamma x) (one-spared (noPoint (length x) p) (no-point-exactly (length x) p))) (
         λ h. record {
           asked = h .0;
           from-one = at-most 1 p (λ l. h .1 (inl (let e : p ≡ 0 = omega arith in e)));

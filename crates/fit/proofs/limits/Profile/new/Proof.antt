@@ -8,10 +8,10 @@ use Rattle.fit.proofs.limits.Profile.new.Statement.{statement}
 use Rattle.fit.proofs.limits.Profile.new.Tie as tie
 
 returns : tie.Need-returns
-returns c = (sym (profile-refused _ 0 (profile-empty _ (c .if1 .taken))), (refl, refl))
+returns c = (sym (profile-refused _ 1 (omega arith) (profile-empty _ (c .if1 .taken))), (refl, refl))
 
 returns-2 : tie.Need-returns-2
-returns-2 c = (sym (profile-refused _ 6 (profile-long _ (c .if2 .taken))), (refl, refl))
+returns-2 c = (sym (profile-refused _ 7 (omega arith) (profile-long _ (c .if2 .taken))), (refl, refl))
 
 held-points-requires : tie.Need-held-points-requires
 held-points-requires c κs = search needs
