@@ -10,20 +10,30 @@ use Rattle.fit.specs.Listing.{upTo, places}
 use Rattle.fit.specs.Refusal.{searchRefusal}
 use Rattle.fit.specs.Answer.{soughtOf, lent, filled}
 
--- a reading that differs by d is near, one that differs by d + 1 is not
-pub near-edges : (near 1 40 41 ≡ true) × (near 1 40 42 ≡ false)
+-- a reading that differs by d is near, one that differs by d + 1 is not; 1 is the least that can be, and 0 is near to no point
+pub near-edges : (near 1 40 41 ≡ true) × (near 1 40 42 ≡ false) × (near 1 2 1 ≡ true) × (near 1 1 0 ≡ false) × (near 255 1 0 ≡ false)
 unfolding near
-near-edges = (refl, refl)
+near-edges = (refl, refl, refl, refl, refl)
 
 -- sums of gamma and of gamma + 1; each place once, rising, the last window among them
 pub place-edges : places 1 1 (40 ∷ 40 ∷ []) (40 ∷ 41 ∷ 41 ∷ 40 ∷ []) ≡ 0 ∷ 2 ∷ []
 unfolding places upTo isPlace isPlaceBy allFit sumCost near
 place-edges = refl
 
--- the first reason in the written order: no points or 65 of them, with a delta that is too large; 64 with it, and without
-pub order-edges : (searchRefusal 256 0 [] [] ≡ 1) × (searchRefusal 256 0 (replicate 65 0) [] ≡ 7) × (searchRefusal 256 0 (replicate 64 0) [] ≡ 2) × (searchRefusal 255 0 (replicate 64 0) [] ≡ 0)
+-- a window with a 0 is no place, though the 0 differs by at most delta and the sum is within gamma
+pub zero-edges : places 9 9 (1 ∷ 2 ∷ []) (1 ∷ 2 ∷ 0 ∷ 1 ∷ 1 ∷ 0 ∷ []) ≡ 0 ∷ 3 ∷ []
+unfolding places upTo isPlace isPlaceBy allFit sumCost near
+zero-edges = refl
+
+-- the first reason in the written order: no points, or 65 of them, or 64 that are 0, with a delta that is too large; 64 with it, and without
+pub order-edges : (searchRefusal 256 0 [] [] ≡ 1) × (searchRefusal 256 0 (replicate 65 0) [] ≡ 7) × (searchRefusal 256 0 (replicate 64 0) [] ≡ 8) × (searchRefusal 256 0 (replicate 64 1) [] ≡ 2) × (searchRefusal 255 0 (replicate 64 1) [] ≡ 0)
 unfolding searchRefusal
-order-edges = (refl, refl, refl, refl)
+order-edges = (refl, refl, refl, refl, refl)
+
+-- a 0 as the last point, and as the first
+pub eight-edges : (searchRefusal 0 0 (1 ∷ 0 ∷ []) [] ≡ 8) × (searchRefusal 0 0 (0 ∷ 1 ∷ []) [] ≡ 8)
+unfolding searchRefusal
+eight-edges = (refl, refl)
 
 -- refused, a list keeps its entries
 pub refusal-edges : filled (searchRefusal 256 0 [] []) (soughtOf 256 0 [] (7 ∷ [])) (lent (5 ∷ [])) ≡ lent (5 ∷ [])

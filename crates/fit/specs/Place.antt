@@ -3,7 +3,7 @@ use Prim.Native.Nat.{ℕ, _+_, _-_, _*_, _≤_, _<_, min}
 use mathlib.Core.Bool.{Bool}
 use mathlib.Core.List.{List}
 use lib.ListN.{length, getD}
-use Rattle.fit.specs.Reading.{diff, near}
+use Rattle.fit.specs.Reading.{lowest, diff, near}
 use Rattle.fit.specs.Rule.{Rule, readingAt, sumCost, isPlaceBy}
 
 -- the rule of an ordinary profile x: a reading suits a point that it is near, and costs its difference
@@ -20,9 +20,11 @@ ruleOf delta x = record { fit = fitOf delta x; cost = costOf x }
 abbrev pub sumDiff : List ℕ → List ℕ → ℕ → ℕ
 sumDiff x y s = sumCost (costOf x) y s (length x)
 
--- "A place is an s whose window has every difference |x[i] - y[s+i-1]| at most delta and the sum of the m differences at most gamma"
+-- "A place is an s whose window has every difference |x[i] - y[s+i-1]| at most delta and the sum of the m differences at most gamma"; "a
+-- window holding a 0 is not a place, whatever the tolerances" (#103)
 pub record Place (delta gamma : ℕ) (x y : List ℕ) (s : ℕ) : Type 0 where
   pub inside : s + length x ≤ length y
+  pub real : (i : ℕ) → i < length x → lowest ≤ readingAt y s i
   pub each : (i : ℕ) → i < length x → diff (getD x i 0) (readingAt y s i) ≤ delta
   pub within : sumDiff x y s ≤ gamma
 

@@ -1,12 +1,13 @@
 -- Readings, their differences, and when two of them are near. Assumes nothing.
 -- Throughout, points and positions count from 0: point number p of document 01, x[p], is point p - 1 here.
 use Prim.Native.Nat.{ℕ, _+_, _-_}
-use mathlib.Core.Bool.{Bool}
+use mathlib.Core.Bool.{Bool, _&&_}
 use lib.Dec.{leb}
 
--- "A reading is a whole number 0 to 255": the least and the greatest
+-- "A reading is a whole number 0 to 255", and "Zero is no pressure reading" (#103): the sensor writes 0 "when it has lost contact". The least
+-- reading that tells a pressure, and the greatest
 unfoldable pub lowest : ℕ
-lowest = 0
+lowest = 1
 
 abbrev pub highest : ℕ
 highest = 255
@@ -19,6 +20,7 @@ diff a b = a - b + (b - a)
 unfoldable pub alike : ℕ → ℕ → ℕ → Bool
 alike k p q = leb (diff p q) k
 
--- "Two readings are near when they differ by at most d": point p and reading a
+-- "Two readings are near when they differ by at most d", and "0 is near to no point" (#103): point p and reading a
 unfoldable pub near : ℕ → ℕ → ℕ → Bool
-near d p a = leb (diff p a) d
+unfolding lowest
+near d p a = leb lowest a && leb (diff p a) d

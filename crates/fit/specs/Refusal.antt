@@ -1,11 +1,12 @@
 -- What is turned away, and in which order: document 01's table, and what document 02 changes in it. Assumes nothing.
 use Prim.Native.Nat.{ℕ, zero, suc, _≤_, _<_}
-use mathlib.Core.Bool.{_||_}
+use mathlib.Core.Bool.{Bool, false, _||_}
 use mathlib.Core.List.{List, [], _∷_, _++_}
 use mathlib.Core.Logic.{_⊎_}
 use mathlib.Core.Path.{_≡_}
-use lib.ListN.{length}
+use lib.ListN.{length, getD}
 use lib.Dec.{eqb, ltb}
+use Rattle.fit.specs.Reading.{lowest}
 use Rattle.fit.specs.Chain.{Reason, firstReason}
 
 -- "The greatest allowed values, 64 points, 255, 16,320 and 1,000,000 readings"
@@ -35,6 +36,14 @@ noPoints x = record { number = 1; applies = eqb (length x) 0 }
 abbrev pub manyPoints : List ℕ → Reason
 manyPoints x = record { number = 7; applies = ltb maxPoints (length x) }
 
+-- #103: "8 for a profile holding a 0"
+abbrev pub holdsZero : List ℕ → Bool
+holdsZero [] = false
+holdsZero (p ∷ x) = eqb p 0 || holdsZero x
+
+abbrev pub zeroPoint : List ℕ → Reason
+zeroPoint x = record { number = 8; applies = holdsZero x }
+
 -- No. 2: "delta > 255 or gamma > 16,320"
 abbrev pub wideTolerance : ℕ → ℕ → Reason
 wideTolerance delta gamma = record { number = 2; applies = ltb maxDelta delta || ltb maxGamma gamma }
@@ -43,9 +52,9 @@ wideTolerance delta gamma = record { number = 2; applies = ltb maxDelta delta ||
 abbrev pub manyReadings : List ℕ → Reason
 manyReadings y = record { number = 3; applies = ltb maxReadings (length y) }
 
--- ---- the order in which they are written. #102: 7 is "tested directly after 1"
+-- ---- the order in which they are written. #102: 7 is "tested directly after 1"; #103: 8 comes "after 7 and before 2"
 abbrev pub profileReasons : List ℕ → List Reason
-profileReasons x = noPoints x ∷ manyPoints x ∷ []
+profileReasons x = noPoints x ∷ manyPoints x ∷ zeroPoint x ∷ []
 
 abbrev pub questionReasons : ℕ → ℕ → List ℕ → List Reason
 questionReasons delta gamma x = profileReasons x ++ (wideTolerance delta gamma ∷ [])
@@ -69,9 +78,15 @@ questionRefusal delta gamma x = firstReason (questionReasons delta gamma x)
 unfoldable pub searchRefusal : ℕ → ℕ → List ℕ → List ℕ → ℕ
 searchRefusal delta gamma x y = firstReason (searchReasons delta gamma x y)
 
--- ---- the reasons, as facts: of the profile the one or the other
+-- ---- the reasons, as facts: a point of the profile is 0
+pub record HoldsZero (x : List ℕ) : Type 0 where
+  pub at : ℕ
+  pub inside : at < length x
+  pub zero-there : getD x at 0 ≡ 0
+
+-- of the profile one of three
 abbrev pub BadProfile : List ℕ → Type 0
-BadProfile x = (length x ≡ 0) ⊎ (maxPoints < length x)
+BadProfile x = (length x ≡ 0) ⊎ ((maxPoints < length x) ⊎ HoldsZero x)
 
 abbrev pub BadTolerance : ℕ → ℕ → Type 0
 BadTolerance delta gamma = (maxDelta < delta) ⊎ (maxGamma < gamma)
@@ -83,6 +98,7 @@ BadRecording y = maxReadings < length y
 pub record Asked (delta gamma : ℕ) (x : List ℕ) : Type 0 where
   pub some : 1 ≤ length x
   pub few : length x ≤ maxPoints
+  pub real : (i : ℕ) → i < length x → lowest ≤ getD x i 0
   pub delta-small : delta ≤ maxDelta
   pub gamma-small : gamma ≤ maxGamma
 

@@ -4,7 +4,7 @@ ghost use Prim.Native.Nat.{_≤_, min};
 ghost use lib.ListN.{length, replicate};
 ghost use Rattle.fit.specs.Place.{dOf, gOf};
 ghost use Rattle.fit.specs.Listing.{overlay};
-ghost use Rattle.fit.specs.Refusal.{maxPoints, maxDelta, maxGamma, maxReadings, orElse, ofRecording};
+ghost use Rattle.fit.specs.Refusal.{maxPoints, maxDelta, maxGamma, maxReadings, orElse, holdsZero, ofProfile, ofRecording};
 ghost use Rattle.fit.specs.Made.{toleranceMade, profileMade, questionChecked, searchChecked};
 
 // The two tolerances: `delta` bounds each difference, `gamma` their sum.
@@ -103,19 +103,10 @@ impl Profile {
         ensures { λ r. ⌜ r ≡ profileMade (now (points .entry)) ⌝ }
         ensures limits { λ r. do ⌜ ((← ⟦Profile::MAX_POINTS⟧ .entry) ≡ maxPoints) × ((← ⟦Profile::MAX_READINGS⟧ .entry) ≡ maxReadings) ⌝ }
     {
-        let m = points.len();
-        if m == 0 {
+        let refusal = of_profile(points);
+        if refusal != 0 {
             return MadeProfile {
-                refusal: 1,
-                profile: Profile {
-                    points: [0; Profile::MAX_POINTS],
-                    m: 0,
-                },
-            };
-        }
-        if Profile::MAX_POINTS < m {
-            return MadeProfile {
-                refusal: 7,
+                refusal,
                 profile: Profile {
                     points: [0; Profile::MAX_POINTS],
                     m: 0,
@@ -125,7 +116,10 @@ impl Profile {
         let held = held_points(points);
         MadeProfile {
             refusal: 0,
-            profile: Profile { points: held, m },
+            profile: Profile {
+                points: held,
+                m: points.len(),
+            },
         }
     }
 
@@ -142,6 +136,36 @@ impl Profile {
     {
         self.points
     }
+}
+
+// The number of the first reason against a profile, or 0.
+fn of_profile(points: &[u8]) -> u32
+    ensures { λ r. ⌜ r ≡ ofProfile (now (points .entry)) ⌝ }
+{
+    if points.len() == 0 {
+        return 1;
+    }
+    if Profile::MAX_POINTS < points.len() {
+        return 7;
+    }
+    if holds_zero(points) {
+        return 8;
+    }
+    0
+}
+
+// Whether a point is 0, which tells no pressure.
+fn holds_zero(points: &[u8]) -> bool
+    ensures { λ r. ⌜ r ≡ holdsZero (now (points .entry)) ⌝ }
+{
+    let mut i = 0;
+    while i < points.len() {
+        if points[i] == 0 {
+            return true;
+        }
+        i += 1;
+    }
+    false
 }
 
 // The points in an array, and zeros beyond them.
@@ -165,7 +189,7 @@ pub struct Checked {
     pub tolerance: Tolerance,
 }
 
-// The input of a question, refused by 1, 7 or 2.
+// The input of a question, refused by 1, 7, 8 or 2.
 pub fn checked_question(points: &[u8], delta: u32, gamma: u32) -> Checked
     ensures { λ r. ⌜ r ≡ questionChecked delta gamma (now (points .entry)) ⌝ }
 {
@@ -180,7 +204,7 @@ pub fn checked_question(points: &[u8], delta: u32, gamma: u32) -> Checked
     }
 }
 
-// The input of a search, refused by 1, 7, 2 or 3.
+// The input of a search, refused by 1, 7, 8, 2 or 3.
 pub fn checked_search(points: &[u8], delta: u32, gamma: u32, recording: &[u8]) -> Checked
     ensures { λ r. ⌜ r ≡ searchChecked delta gamma (now (points .entry)) (now (recording .entry)) ⌝ }
 {

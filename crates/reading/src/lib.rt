@@ -3,8 +3,8 @@ ghost use mathlib.Core.Path.{_≡_};
 ghost use Prim.Native.Nat.{_-_, _≤_, max};
 ghost use Rattle.fit.specs.Reading.{lowest, highest, diff, alike, near};
 
-// The least value that is a reading, and the greatest.
-const LOWEST: u32 = 0;
+// The least reading that tells a pressure, and the greatest: the sensor writes 0 where it has lost contact.
+const LOWEST: u32 = 1;
 
 pub const HIGHEST: u8 = 255;
 
@@ -26,10 +26,13 @@ pub fn are_alike(k: u32, p: u8, q: u8) -> bool
     differ(p, q) <= k
 }
 
-// Whether reading a is near point p.
+// Whether reading a is near point p, as 0 is to none.
 pub fn is_near(d: u32, p: u8, a: u8) -> bool
     ensures { λ r. ⌜ r ≡ near d p a ⌝ }
 {
+    if (a as u32) < LOWEST {
+        return false;
+    }
     differ(p, a) <= d
 }
 

@@ -16,7 +16,7 @@ use Rattle.fit.specs.declared.limits.MadeTolerance.{MadeTolerance}
 use Rattle.fit.specs.declared.limits.MadeProfile.{MadeProfile}
 use Rattle.fit.specs.declared.limits.Checked.{Checked}
 use Rattle.fit.proofs.Laws.Listings.{overlay-more, take-overlay}
-use Rattle.fit.proofs.Laws.Refusals.{profile-good, tolerance-bad, tolerance-good, question-joined, search-joined}
+use Rattle.fit.proofs.Laws.Refusals.{asked-profile, tolerance-bad, tolerance-good, question-joined, search-joined}
 
 -- ---- tolerance
 pub tolerance-refused : (delta gamma : ℕ) → BadTolerance delta gamma
@@ -44,10 +44,10 @@ unfolding madeProfile
 profile-refused x zero some e = absurd (omega arith)
 profile-refused x (suc num) some e = rw e
 
-pub profile-made : (x : List ℕ) → 1 ≤ length x → length x ≤ maxPoints
+pub profile-made : (x : List ℕ) → ofProfile x ≡ 0
     → profileMade x ≡ record { refusal = 0; profile = record { points = overlay x (replicate maxPoints 0); m = length x } }
 unfolding madeProfile
-profile-made x a b = rw (profile-good x a b)
+profile-made x e = rw e
 
 profile-number : (num : ℕ) (x : List ℕ) → madeProfile num x .refusal ≡ num
 unfolding madeProfile
@@ -103,8 +103,8 @@ carried : (delta gamma num : ℕ) (x : List ℕ) → Asked delta gamma x
     → Carries delta gamma x (record { refusal = num; profile = profileMade x .profile; tolerance = toleranceMade delta gamma .tolerance })
 carried delta gamma num x ok = record {
   tolerance = ap (λ (t : MadeTolerance). t .tolerance) (tolerance-made delta gamma (ok .delta-small) (ok .gamma-small));
-  points = ap (λ (p : MadeProfile). pointsOf (p .profile)) (profile-made x (ok .some) (ok .few)) ∙ held x (ok .few);
-  m = ap (λ (p : MadeProfile). p .profile .m) (profile-made x (ok .some) (ok .few));
+  points = ap (λ (p : MadeProfile). pointsOf (p .profile)) (profile-made x (asked-profile delta gamma x ok)) ∙ held x (ok .few);
+  m = ap (λ (p : MadeProfile). p .profile .m) (profile-made x (asked-profile delta gamma x ok));
 }
 
 pub question-carries : (delta gamma : ℕ) (x : List ℕ) {q : Checked} → q ≡ questionChecked delta gamma x → Asked delta gamma x → Carries delta gamma x q

@@ -12,7 +12,7 @@ use Rattle.fit.specs.Rule.{readingAt, isPlaceBy, nearBy}
 use Rattle.fit.specs.Place.{fitOf, costOf, ruleOf, sumDiff, Place, isPlace, windows, dOf, gOf}
 use Rattle.fit.specs.Listing.{places, Rising, those}
 use Rattle.fit.proofs.Laws.Bools.{and-left, and-right, and-both, same-test}
-use Rattle.fit.proofs.Laws.Readings.{any-reading, near-le, near-lowest, le-near, near-wider}
+use Rattle.fit.proofs.Laws.Readings.{near-le, near-lowest, le-near, near-wider}
 use Rattle.fit.proofs.Laws.Listings.{up-same}
 use Rattle.fit.proofs.Laws.Risings.{in-up, up-in, rising-up, rising-same, finds-all}
 use Rattle.fit.proofs.Laws.Rules.{fit-all, sum-term, sum-bound, by-is, by-inside, by-fit, by-within}
@@ -22,10 +22,15 @@ module _ (delta gamma : ℕ) (x y : List ℕ) (s : ℕ) where
   pub place-of : s + length x ≤ length y → ((i : ℕ) → i < length x → near delta (getD x i 0) (readingAt y s i) ≡ true) → sumDiff x y s ≤ gamma
       → Place delta gamma x y s
   place-of inside each within =
-      record { inside = inside; each = λ i h. near-le delta (getD x i 0) (readingAt y s i) (each i h); within = within }
+      record {
+        inside = inside;
+        real = λ i h. near-lowest delta (getD x i 0) (readingAt y s i) (each i h);
+        each = λ i h. near-le delta (getD x i 0) (readingAt y s i) (each i h);
+        within = within;
+      }
 
   pub place-fits : Place delta gamma x y s → (i : ℕ) → i < length x → near delta (getD x i 0) (readingAt y s i) ≡ true
-  place-fits p i h = le-near delta (getD x i 0) (readingAt y s i) (any-reading (readingAt y s i)) (p .each i h)
+  place-fits p i h = le-near delta (getD x i 0) (readingAt y s i) (p .real i h) (p .each i h)
 
 -- ---- relation and test say the same
 module _ (delta gamma : ℕ) (x y : List ℕ) (s : ℕ) where
@@ -86,8 +91,7 @@ module _ (delta gamma : ℕ) (x y : List ℕ) (s : ℕ) where
   -- each reading of a place is near its point by d
   pub place-near : Place delta gamma x y s → (i : ℕ) → i < length x → near (dOf delta gamma) (getD x i 0) (readingAt y s i) ≡ true
   place-near p i h =
-      le-near (dOf delta gamma) (getD x i 0) (readingAt y s i)
-      (near-lowest delta (getD x i 0) (readingAt y s i) (place-fits delta gamma x y s p i h))
+      le-near (dOf delta gamma) (getD x i 0) (readingAt y s i) (p .real i h)
       (omega (arith, p .each i h, sum-term (costOf x) y s (length x) i h, p .within))
 
   pub place-down : Place delta gamma x y s → Place (dOf delta gamma) (gOf (length x) delta gamma) x y s

@@ -6,15 +6,14 @@ use mathlib.Core.Logic.{inl, inr, ⊎-elim, _↔_, Iff·trans, Iff·and}
 use mathlib.Core.List.{List, [], _∷_, tail}
 use Prim.Native.Nat.{ℕ, _≤_, _<_}
 use native.Mathlib.Omega.{arith}
-use lib.ListN.{length, getD}
+use lib.ListN.{length}
 use lib.Dec.{ltb}
 use borrow.Author.Tests.{eqb-true, ltb-true, eq-eqb, lt-ltb}
-use Rattle.fit.specs.Reading.{lowest}
 use Rattle.fit.specs.Chain.{NoneApplies, FirstInOrder}
-use Rattle.fit.specs.Refusal.{maxPoints, maxDelta, maxGamma, maxReadings, noPoints, manyPoints, wideTolerance, manyReadings, profileReasons, questionReasons, searchReasons, orElse, ofProfile, ofTolerance, ofRecording, questionRefusal, searchRefusal, BadProfile, BadTolerance, BadRecording, Asked, Accepted}
-use Rattle.fit.proofs.Laws.Bools.{or-cases, or-left, or-right, at-most}
+use Rattle.fit.specs.Refusal.{maxPoints, maxDelta, maxGamma, maxReadings, noPoints, manyPoints, zeroPoint, wideTolerance, manyReadings, profileReasons, questionReasons, searchReasons, orElse, ofProfile, ofTolerance, ofRecording, questionRefusal, searchRefusal, holdsZero, HoldsZero, BadProfile, BadTolerance, BadRecording, Asked, Accepted}
+use Rattle.fit.proofs.Laws.Bools.{or-cases, or-left, or-right, not-both, at-most}
 use Rattle.fit.proofs.Laws.Chains.{has, behind, ahead, first-exactly, zero-exactly, in-order, given-small, joined, none-both, one-spared, more-spared}
-use Rattle.fit.proofs.Laws.Readings.{any-reading}
+use Rattle.fit.proofs.Laws.Zeros.{holds-exactly, real-exactly}
 
 -- ---- the tests, as facts
 empty-exactly : (x : List ℕ) → (noPoints x .applies ≡ true) ↔ (length x ≡ 0)
@@ -34,9 +33,11 @@ long-exactly : (y : List ℕ) → (manyReadings y .applies ≡ true) ↔ BadReco
 long-exactly y = (ltb-true maxReadings (length y), lt-ltb maxReadings (length y))
 
 profile-spared : (x : List ℕ) → NoneApplies (profileReasons x) ↔ (BadProfile x → ⊥)
-profile-spared x = more-spared (noPoints x) (manyPoints x ∷ []) (empty-exactly x) (one-spared (manyPoints x) (many-exactly x))
+profile-spared x =
+    more-spared (noPoints x) (manyPoints x ∷ zeroPoint x ∷ []) (empty-exactly x)
+    (more-spared (manyPoints x) (zeroPoint x ∷ []) (many-exactly x) (one-spared (zeroPoint x) (holds-exactly x)))
 
--- ---- a profile: 1 and 7, whatever is written after them
+-- ---- a profile: 1, 7 and 8, whatever is written after them
 module _ (x : List ℕ) where
   -- "1 now only for m = 0"
   pub profile-one-exactly : (ofProfile x ≡ 1) ↔ (length x ≡ 0)
@@ -50,9 +51,22 @@ module _ (x : List ℕ) where
       Iff·trans (behind (noPoints x ∷ []) (tail (profileReasons x)) 7 refl)
       (Iff·and (one-spared (noPoints x) (empty-exactly x)) (Iff·trans (first-exactly (manyPoints x) (tail (tail (profileReasons x))) (omega arith) refl) (many-exactly x)))
 
+  -- "8 for a profile holding a 0, after 7", and no reason before it applies
+  pub profile-eight-exactly : (ofProfile x ≡ 8) ↔ ((length x ≡ 0 → ⊥) × ((maxPoints < length x → ⊥) × HoldsZero x))
+  unfolding ofProfile
+  profile-eight-exactly =
+      Iff·trans (behind (noPoints x ∷ []) (tail (profileReasons x)) 8 refl)
+      (Iff·and (one-spared (noPoints x) (empty-exactly x))
+      (Iff·trans (behind (manyPoints x ∷ []) (tail (tail (profileReasons x))) 8 refl)
+      (Iff·and (one-spared (manyPoints x) (many-exactly x))
+      (Iff·trans (first-exactly (zeroPoint x) (tail (tail (tail (profileReasons x)))) (omega arith) refl) (holds-exactly x)))))
+
   pub profile-none-exactly : (ofProfile x ≡ 0) ↔ (BadProfile x → ⊥)
   unfolding ofProfile
   profile-none-exactly = Iff·trans (zero-exactly (profileReasons x) refl) (profile-spared x)
+
+  pub profile-few : ofProfile x ≡ 0 → length x ≤ maxPoints
+  profile-few e = at-most (length x) maxPoints (λ h. profile-none-exactly .0 e (inr (inl h)))
 
   pub profile-empty : length x ≡ 0 → ofProfile x ≡ 1
   profile-empty = profile-one-exactly .1
@@ -60,8 +74,12 @@ module _ (x : List ℕ) where
   pub profile-long : maxPoints < length x → ofProfile x ≡ 7
   profile-long h = profile-seven-exactly .1 (λ e. omega arith, h)
 
-  pub profile-good : 1 ≤ length x → length x ≤ maxPoints → ofProfile x ≡ 0
-  profile-good a b = profile-none-exactly .1 (⊎-elim (λ e. omega arith) (λ h. omega arith))
+  pub profile-zero : length x ≤ maxPoints → holdsZero x ≡ true → ofProfile x ≡ 8
+  profile-zero h t =
+      let z = holds-exactly x .0 t in profile-eight-exactly .1 (λ e. omega (arith, z .inside), (λ l. omega arith, z))
+
+  pub profile-good : 1 ≤ length x → length x ≤ maxPoints → holdsZero x ≡ false → ofProfile x ≡ 0
+  profile-good a b t = profile-none-exactly .1 (⊎-elim (λ e. omega arith) (⊎-elim (λ h. omega arith) (λ z. not-both (holds-exactly x .1 z) t)))
 
 -- ---- a tolerance: 2
 module _ (delta gamma : ℕ) where
@@ -97,7 +115,7 @@ module _ (y : List ℕ) where
   unfolding ofRecording
   recording-good h = zero-exactly (manyReadings y ∷ []) refl .1 (recording-spared .1 (λ l. omega arith))
 
--- ---- a question: 1, 7, 2
+-- ---- a question: 1, 7, 8, 2
 module _ (delta gamma : ℕ) (x : List ℕ) where
   both-spared : NoneApplies (questionReasons delta gamma x) ↔ ((BadProfile x → ⊥) × (BadTolerance delta gamma → ⊥))
   both-spared = Iff·trans (none-both (profileReasons x) (wideTolerance delta gamma ∷ [])) (Iff·and (profile-spared x) (tolerance-spared delta gamma))
@@ -106,11 +124,15 @@ module _ (delta gamma : ℕ) (x : List ℕ) where
   asked-exactly = (
     λ none. record {
       some = at-most 1 (length x) (λ h. none .0 (inl (let e : length x ≡ 0 = omega arith in e)));
-      few = at-most (length x) maxPoints (λ h. none .0 (inr h));
+      few = at-most (length x) maxPoints (λ h. none .0 (inr (inl h)));
+      real = real-exactly x .0 (λ z. none .0 (inr (inr z)));
       delta-small = at-most delta maxDelta (λ h. none .1 (inl h));
       gamma-small = at-most gamma maxGamma (λ h. none .1 (inr h));
     },
-    λ ok. (⊎-elim (λ e. omega (arith, ok .some)) (λ h. omega (arith, ok .few)), ⊎-elim (λ h. omega (arith, ok .delta-small)) (λ h. omega (arith, ok .gamma-small))),
+    λ ok. (
+      ⊎-elim (λ e. omega (arith, ok .some)) (⊎-elim (λ h. omega (arith, ok .few)) (real-exactly x .1 (ok .real))),
+      ⊎-elim (λ h. omega (arith, ok .delta-small)) (λ h. omega (arith, ok .gamma-small)),
+    ),
   )
 
   pub question-spared : NoneApplies (questionReasons delta gamma x) ↔ Asked delta gamma x
@@ -126,6 +148,11 @@ module _ (delta gamma : ℕ) (x : List ℕ) where
   unfolding questionRefusal ofProfile
   asked-seven-exactly = Iff·trans (ahead (profileReasons x) (wideTolerance delta gamma ∷ []) 7 (omega arith) refl) (profile-seven-exactly x)
 
+  -- "8 for a profile holding a 0, after 7", and no reason before it applies
+  pub asked-eight-exactly : (questionRefusal delta gamma x ≡ 8) ↔ ((length x ≡ 0 → ⊥) × ((maxPoints < length x → ⊥) × HoldsZero x))
+  unfolding questionRefusal ofProfile
+  asked-eight-exactly = Iff·trans (ahead (profileReasons x) (wideTolerance delta gamma ∷ []) 8 (omega arith) refl) (profile-eight-exactly x)
+
   -- No. 2: "delta > 255 or gamma > 16,320", and no reason before it applies
   pub asked-two-exactly : (questionRefusal delta gamma x ≡ 2) ↔ ((BadProfile x → ⊥) × BadTolerance delta gamma)
   unfolding questionRefusal ofTolerance
@@ -136,6 +163,10 @@ module _ (delta gamma : ℕ) (x : List ℕ) where
   pub asked-none-exactly : (questionRefusal delta gamma x ≡ 0) ↔ Asked delta gamma x
   unfolding questionRefusal
   asked-none-exactly = Iff·trans (zero-exactly (questionReasons delta gamma x) refl) question-spared
+
+  -- where it is, nothing stands against the profile alone
+  pub asked-profile : Asked delta gamma x → ofProfile x ≡ 0
+  asked-profile ok = profile-none-exactly x .1 (asked-exactly .1 ok .0)
 
   pub asked-accepted : questionRefusal delta gamma x ≡ 0 → Asked delta gamma x
   asked-accepted = asked-none-exactly .0
@@ -150,11 +181,7 @@ module _ (delta gamma : ℕ) (x : List ℕ) where
   unfolding questionRefusal ofProfile ofTolerance
   question-joined = joined (profileReasons x) (wideTolerance delta gamma ∷ []) refl
 
--- every point of an accepted profile is a reading
-pub asked-real : (delta gamma : ℕ) (x : List ℕ) → Asked delta gamma x → (i : ℕ) → i < length x → lowest ≤ getD x i 0
-asked-real delta gamma x ok i h = any-reading (getD x i 0)
-
--- ---- a search: 1, 7, 2, 3
+-- ---- a search: 1, 7, 8, 2, 3
 module _ (delta gamma : ℕ) (x y : List ℕ) where
   pub search-spared : NoneApplies (searchReasons delta gamma x y) ↔ Accepted delta gamma x y
   search-spared =
@@ -174,6 +201,10 @@ module _ (delta gamma : ℕ) (x y : List ℕ) where
   -- "7 for m > 64", and no reason before it applies
   pub seven-exactly : (searchRefusal delta gamma x y ≡ 7) ↔ ((length x ≡ 0 → ⊥) × (maxPoints < length x))
   seven-exactly = Iff·trans (as-question 7 (omega arith) refl) (asked-seven-exactly delta gamma x)
+
+  -- "8 for a profile holding a 0, after 7", and no reason before it applies
+  pub eight-exactly : (searchRefusal delta gamma x y ≡ 8) ↔ ((length x ≡ 0 → ⊥) × ((maxPoints < length x → ⊥) × HoldsZero x))
+  eight-exactly = Iff·trans (as-question 8 (omega arith) refl) (asked-eight-exactly delta gamma x)
 
   -- No. 2: "delta > 255 or gamma > 16,320", and no reason before it applies
   pub two-exactly : (searchRefusal delta gamma x y ≡ 2) ↔ ((BadProfile x → ⊥) × BadTolerance delta gamma)
