@@ -20,6 +20,11 @@ pub next-edges : (nextJump (fitOf 1 two) 2 21 ≡ 1) × (nextJump (fitOf 1 two) 
 unfolding greatest near
 next-edges = (refl, refl)
 
+-- for a reading of 0, "m and m + 1" (#103), though it differs from each point by at most d
+pub zero-edges : (lastJump (fitOf 9 (1 ∷ 2 ∷ [])) 2 0 ≡ 2) × (nextJump (fitOf 9 (1 ∷ 2 ∷ [])) 2 0 ≡ 3)
+unfolding greatest near
+zero-edges = (refl, refl)
+
 -- points that differ by 2d, and by 2d + 1
 pub after-edges : (afterJump 1 (42 ∷ 44 ∷ []) ≡ 1) × (afterJump 1 (41 ∷ 44 ∷ []) ≡ 2)
 unfolding greatest alike
@@ -29,8 +34,8 @@ pub full-edges : (fullJump 1 (42 ∷ 44 ∷ []) ≡ 1) × (fullJump 1 (41 ∷ 44
 unfolding fullJump least fullAt allBelow alike
 full-edges = (refl, refl)
 
--- 9 is near 8 and not near 7, though 8 is near 7; what is near 0 is near 1
-pub mismatch-edges : (mismatchJump 1 (8 ∷ 7 ∷ []) 1 ≡ 1) × (mismatchJump 1 (0 ∷ 1 ∷ []) 1 ≡ 2)
+-- 9 is near 8 and not near 7, though 8 is near 7; what is near 1 is near 2, since 0 is near to neither
+pub mismatch-edges : (mismatchJump 1 (8 ∷ 7 ∷ []) 1 ≡ 1) × (mismatchJump 1 (1 ∷ 2 ∷ []) 1 ≡ 2)
 unfolding mismatchJump near
 mismatch-edges = (refl, refl)
 

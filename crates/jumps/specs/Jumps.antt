@@ -3,8 +3,8 @@ use Prim.Native.Nat.{ℕ, _+_, _-_, _*_}
 use mathlib.Core.Bool.{Bool, not, _&&_, _||_}
 use mathlib.Core.List.{List}
 use lib.ListN.{length, getD}
-use lib.Dec.{ltb, eqb}
-use Rattle.fit.specs.Reading.{highest, alike, near}
+use lib.Dec.{ltb, leb, eqb}
+use Rattle.fit.specs.Reading.{lowest, highest, alike, near}
 use Rattle.jumps.specs.Least.{greatest, least, allBelow, someBelow}
 
 -- ---- the two rules that look at one reading a, for points of any kind: `near i a` says that a may stand at point i
@@ -16,22 +16,17 @@ lastJump near m a = m - greatest (λ i. near i a) m
 abbrev pub nextJump : (ℕ → ℕ → Bool) → ℕ → ℕ → ℕ
 nextJump near m a = m + 1 - greatest (λ i. near i a) m
 
--- "some reading c from 0 to 255 is near" one point "and not near" the other
+-- "some reading c .. is near" one point "and not near" the other, where "c runs from 1 to 255" (#103)
 unfoldable pub lonely : ℕ → ℕ → ℕ → Bool
-unfolding someBelow
-lonely d one other = someBelow (λ c. near d one c && not (near d other c)) (highest + 1)
-
--- "every reading is near x[p]" is its contrary: some reading is not near point p
-unfoldable pub somewhereFar : ℕ → ℕ → Bool
-unfolding someBelow
-somewhereFar d p = someBelow (λ c. not (near d p c)) (highest + 1)
+unfolding lowest someBelow
+lonely d one other = someBelow (λ c. leb lowest c && (near d one c && not (near d other c))) (highest + 1)
 
 module _ (d : ℕ) (x : List ℕ) where
   -- "m - i for the greatest i < m with |x[i] - x[m]| at most 2d; m if none"
   abbrev pub afterJump : ℕ
   afterJump = length x - greatest (λ i. alike (2 * d) (getD x i 0) (getD x (length x - 1) 0)) (length x - 1)
 
-  -- the lone condition of point p at k: "p - k < 1, or some reading c from 0 to 255 is near x[p-k] and not near x[p]"
+  -- the lone condition of point p at k: "p - k < 1, or some reading c .. is near x[p-k] and not near x[p]"
   unfoldable pub loneAt : ℕ → ℕ → Bool
   unfolding lonely
   loneAt p k = ltb p k || lonely d (getD x (p - k) 0) (getD x p 0)

@@ -12,7 +12,7 @@ use Rattle.fit.specs.Rule.{readingAt, isPlaceBy, nearBy}
 use Rattle.fit.specs.Place.{fitOf, costOf, ruleOf, sumDiff, Place, isPlace, windows, dOf, gOf}
 use Rattle.fit.specs.Listing.{places, Rising, those}
 use Rattle.fit.proofs.Laws.Bools.{and-left, and-right, and-both, same-test}
-use Rattle.fit.proofs.Laws.Readings.{near-le, near-lowest, le-near, near-wider}
+use Rattle.fit.proofs.Laws.Readings.{zero-below, near-le, near-lowest, le-near, near-wider}
 use Rattle.fit.proofs.Laws.Listings.{up-same}
 use Rattle.fit.proofs.Laws.Risings.{in-up, up-in, rising-up, rising-same, finds-all}
 use Rattle.fit.proofs.Laws.Rules.{fit-all, sum-term, sum-bound, by-is, by-inside, by-fit, by-within}
@@ -31,6 +31,10 @@ module _ (delta gamma : ℕ) (x y : List ℕ) (s : ℕ) where
 
   pub place-fits : Place delta gamma x y s → (i : ℕ) → i < length x → near delta (getD x i 0) (readingAt y s i) ≡ true
   place-fits p i h = le-near delta (getD x i 0) (readingAt y s i) (p .real i h) (p .each i h)
+
+  -- "a window holding a 0 is not a place, whatever the tolerances" (#103)
+  pub zero-no-place : (i : ℕ) → i < length x → readingAt y s i ≡ 0 → Place delta gamma x y s → ⊥
+  zero-no-place i h e p = zero-below (rw e at (p .real i h))
 
 -- ---- relation and test say the same
 module _ (delta gamma : ℕ) (x y : List ℕ) (s : ℕ) where

@@ -7,17 +7,16 @@ use mathlib.Core.List.{List}
 use native.Mathlib.Decide.{ℕ-discrete}
 use native.Mathlib.Omega.{arith}
 use lib.ListN.{length, getD}
-use Rattle.fit.specs.Reading.{lowest, highest, diff, alike, near}
+use Rattle.fit.specs.Reading.{highest, diff, alike, near}
 use Rattle.fit.specs.Rule.{Rule, readingAt, nearBy}
 use Rattle.fit.specs.Place.{fitOf, ruleOf, Place, dOf}
 use Rattle.fit.specs.Refusal.{Asked}
 use Rattle.fit.proofs.Laws.Bools.{either, not-both}
-use Rattle.fit.proofs.Laws.Readings.{near-le, near-self}
+use Rattle.fit.proofs.Laws.Readings.{near-le, near-self, zero-far}
 use Rattle.fit.proofs.Laws.Places.{place-by, by-place, near-derived}
-use Rattle.fit.proofs.Laws.Refusals.{asked-real}
-use Rattle.jumps.specs.Jumps.{lastJump, nextJump, afterJump, lonely, earlier, mismatchAt, mismatchJump, fullAt, fullJump, somewhereFar}
+use Rattle.jumps.specs.Jumps.{lastJump, nextJump, afterJump, lonely, earlier, mismatchAt, mismatchJump, fullAt, fullJump}
 use Rattle.jumps.specs.Demand.{Readings, Passed, NotTooLong, Reaches, Occurs, LastIs, NextIs, LastNear, MismatchedAt, Mismatch, AllNear}
-use Rattle.jumps.proofs.Laws.Nears.{near-both, both-near, lonely-is, is-lonely, Far, somewhere-is, is-somewhere}
+use Rattle.jumps.proofs.Laws.Nears.{near-both, both-near, lonely-is, is-lonely}
 use Rattle.jumps.proofs.Laws.Conditions.{lone-is, is-lone, not-before-itself, agrees-is, is-agreed, mismatch-lone, mismatch-agrees, is-mismatch, full-is, is-full}
 use Rattle.jumps.proofs.Laws.Frame.{Home, Some, Meet, PlaceBy, occurs, long-as, reaches-as}
 use Rattle.jumps.proofs.Laws.Single.{single-passes, single-short}
@@ -115,24 +114,16 @@ module _ (delta gamma : ℕ) (x : List ℕ) (asked : Asked delta gamma x) where
         long (Mismatch d x p) 1 (mismatchJump d x p) (mismatchJump d x p) refl
         (several-long rule m gamma (asked .some) (MismatchedAt d x p) (mismatchAt d x p) mismatch-sound)
 
-    -- "It cannot occur where every reading is near x[p]": where the evidence occurs, some reading is not
-    pub mismatch-occurs-only : (y : List ℕ) (s : ℕ) → Readings y → Mismatch (dOf delta gamma) x p y s → somewhereFar (dOf delta gamma) (getD x p 0) ≡ true
-    mismatch-occurs-only y s rd e =
-        is-somewhere d (at p) (record { c = readingAt y s p; byte = rd (s + p); far = e .each p point .itself-far refl })
-
   -- ---- never too short
   module _ (bytes : Readings x) where
-    real : (i : ℕ) → i < m → lowest ≤ at i
-    real = asked-real delta gamma x asked
-
     self : (i : ℕ) → i < m → near d (at i) (at i) ≡ true
-    self i l = near-self d (at i) (real i l)
+    self i l = near-self d (at i) (asked .real i l)
 
     homes : Home rule m
     homes = record {
       home = at;
       byte = bytes;
-      fits = λ i l. near-self delta (at i) (real i l);
+      fits = λ i l. near-self delta (at i) (asked .real i l);
       free = λ i l. omega arith;
     }
 
@@ -147,7 +138,7 @@ module _ (delta gamma : ℕ) (x : List ℕ) (asked : Asked delta gamma x) where
     -- a reading near point q that may stand at point i
     meet-both : (q i : ℕ) → q < m → i < m → alike (2 * d) (at i) (at q) ≡ true → Meet rule gamma i (λ c. near d (at q) c ≡ true)
     meet-both q i h l e =
-        let b = near-both d (at i) (at q) (bytes i) (bytes q) (real i l) (real q h) e in
+        let b = near-both d (at i) (at q) (bytes i) (bytes q) (asked .real i l) (asked .real q h) e in
         record { c = b .c; byte = b .byte; seen = b .snd; near = of-near i (b .c) (b .fst) }
 
     pub after-check-reaches : Reaches (Place delta gamma x) (LastNear (dOf delta gamma) x) (afterJump (dOf delta gamma) x)
@@ -170,16 +161,16 @@ module _ (delta gamma : ℕ) (x : List ℕ) (asked : Asked delta gamma x) where
         itself-far = λ e′. subst (λ (j : ℕ). near d (at j) c ≡ false) (sym e) f;
       }
 
-      any-of : Far d (at p) → (q : ℕ) → q < m → Some (MismatchedAt d x p q)
-      any-of f q l = go (ℕ-discrete q p)
+      any-of : (q : ℕ) → q < m → Some (MismatchedAt d x p q)
+      any-of q l = go (ℕ-discrete q p)
         where
           go : Dec (q ≡ p) → Some (MismatchedAt d x p q)
-          go (yes e) = record { c = f .c; byte = f .byte; seen = at-p q (f .c) e (f .far) }
+          go (yes e) = record { c = 0; byte = omega arith; seen = at-p q 0 e (zero-far d (at p)) }
           go (no e) = record { c = at q; byte = bytes q; seen = other q (at q) e (λ h. self q l) }
 
-      -- where some reading is not near x[p], the evidence can occur
-      pub mismatch-can-occur : somewhereFar (dOf delta gamma) (getD x p 0) ≡ true → Occurs (Mismatch (dOf delta gamma) x p)
-      mismatch-can-occur can = occurs (MismatchedAt d x p) m (omega (arith, asked .few)) (any-of (somewhere-is d (at p) can))
+      -- "A 0 is possible evidence of a mismatch with any point" (#103): it can always occur
+      pub mismatch-can-occur : Occurs (Mismatch (dOf delta gamma) x p)
+      mismatch-can-occur = occurs (MismatchedAt d x p) m (omega (arith, asked .few)) any-of
 
     -- what may stand at a point costs at most d
     most : (i a : ℕ) → nearBy rule gamma i a ≡ true → diff (at i) a ≤ d
@@ -223,11 +214,9 @@ module _ (delta gamma : ℕ) (x : List ℕ) (asked : Asked delta gamma x) where
                 })
                 (either (earlier d x (k + i) p))
 
-        -- where its evidence can occur
-        pub mismatch-reaches : somewhereFar (dOf delta gamma) (getD x p 0) ≡ true
-            → Reaches (Place delta gamma x) (Mismatch (dOf delta gamma) x p) (mismatchJump (dOf delta gamma) x p)
+        pub mismatch-reaches : Reaches (Place delta gamma x) (Mismatch (dOf delta gamma) x p) (mismatchJump (dOf delta gamma) x p)
         unfolding mismatchJump
-        mismatch-reaches can =
+        mismatch-reaches =
             reaches (Mismatch d x p) (mismatchJump d x p) (mismatchJump d x p) refl
             (several-short rule m gamma (asked .some) (MismatchedAt d x p) (mismatchAt d x p) (mismatch-sound p point) (omega (arith, asked .few)) homes mismatch-meets
-            (any-of p (somewhere-is d (at p) can)) d most wide)
+            (any-of p) d most wide)

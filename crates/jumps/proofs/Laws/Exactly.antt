@@ -10,7 +10,7 @@ use lib.ListN.{length, getD}
 use Rattle.fit.specs.Reading.{highest}
 use Rattle.fit.specs.Place.{fitOf, Place, dOf}
 use Rattle.fit.specs.Refusal.{Asked}
-use Rattle.jumps.specs.Jumps.{lastJump, nextJump, afterJump, mismatchJump, fullJump, somewhereFar}
+use Rattle.jumps.specs.Jumps.{lastJump, nextJump, afterJump, mismatchJump, fullJump}
 use Rattle.jumps.specs.Demand.{Readings, NotTooLong, Halves, LastIs, NextIs, LastNear, Mismatch, AllNear}
 use Rattle.jumps.proofs.Laws.Frame.{no-second-jump, larger-not-too-long}
 use Rattle.jumps.proofs.Laws.Demands.{last-reading-not-too-long, next-reading-not-too-long, after-check-not-too-long, mismatch-not-too-long, full-not-too-long, last-reading-reaches, next-reading-reaches, after-check-reaches, mismatch-reaches, full-reaches}
@@ -56,13 +56,11 @@ module _ (delta gamma : ℕ) (x : List ℕ) (asked : Asked delta gamma x) where
         reaches = full-reaches delta gamma x asked bytes wide;
       })
 
-      -- "and for the mismatch jump that its evidence can occur"
-      pub mismatch-exactly : (p : ℕ) → p < length x → somewhereFar (dOf delta gamma) (getD x p 0) ≡ true
-          → Both (Mismatch (dOf delta gamma) x p) 1 k ↔ (k ≡ mismatchJump (dOf delta gamma) x p)
-      mismatch-exactly p l can = exactly _ _ 1 _ k (record {
+      pub mismatch-exactly : (p : ℕ) → p < length x → Both (Mismatch (dOf delta gamma) x p) 1 k ↔ (k ≡ mismatchJump (dOf delta gamma) x p)
+      mismatch-exactly p l = exactly _ _ 1 _ k (record {
         onward = mismatch-jump-ge (dOf delta gamma) x (asked .some) p;
         not-too-long = mismatch-not-too-long delta gamma x asked p l;
-        reaches = mismatch-reaches delta gamma x asked bytes wide p l can;
+        reaches = mismatch-reaches delta gamma x asked bytes wide p l;
       })
 
   -- ---- "The larger of two jumps is never too long": the next-reading jump with the mismatch jump, and with the full jump

@@ -41,6 +41,12 @@ module _ (ok : ℕ → Bool) where
       above : suc n ≤ j → ⊥
       above a = omega arith
 
+  -- where none passes, there is none
+  pub greatest-absent : (n : ℕ) → ((i : ℕ) → i < n → ok i ≡ false) → greatest ok n ≡ 0
+  unfolding greatest
+  greatest-absent zero h = refl
+  greatest-absent (suc n) h = rw (h n (omega arith)) (greatest-absent n (λ i l. h i (omega arith)))
+
   pub greatest-hit : (i : ℕ) → 0 < i → ok (i - 1) ≡ true → greatest ok i ≡ i
   unfolding greatest
   greatest-hit zero l e = absurd (not-suc-le-zero l)

@@ -4,11 +4,12 @@ use mathlib.Core.Path.{_≡_, sym, ap, _∙_}
 use mathlib.Core.Bool.{Bool, true, false, not, _&&_, _||_}
 use mathlib.Core.Logic.{⊎-elim}
 use native.Mathlib.Omega.{arith}
-use borrow.Author.Tests.{not-true}
+use lib.Dec.{leb}
+use borrow.Author.Tests.{not-true, le-leb}
 use Rattle.fit.specs.Reading.{lowest, highest, diff, alike, near}
 use Rattle.fit.proofs.Laws.Bools.{and-left, and-right, and-both, or-cases, or-left, or-right, same-test, le-or-lt}
 use Rattle.fit.proofs.Laws.Readings.{alike-le, le-alike, near-le, near-lowest, le-near, far-gt, gt-far}
-use Rattle.jumps.specs.Jumps.{lonely, somewhereFar}
+use Rattle.jumps.specs.Jumps.{lonely}
 use Rattle.jumps.proofs.Laws.Leasts.{some-is, is-some}
 
 not-of : (b : Bool) → b ≡ false → not b ≡ true
@@ -50,19 +51,21 @@ module _ (d : ℕ) where
   pub lonely-is : (a b : ℕ) → lonely d a b ≡ true → NearOnly d a b
   unfolding lonely
   lonely-is a b e =
-      let r = some-is (λ c. near d a c && not (near d b c)) (highest + 1) e in
+      let r = some-is (λ c. leb lowest c && (near d a c && not (near d b c))) (highest + 1) e in
+      let told = and-right (leb lowest (r .0)) (near d a (r .0) && not (near d b (r .0))) (r .2) in
       record {
         c = r .0;
         byte = omega (arith, r .1);
-        near-one = and-left (near d a (r .0)) (not (near d b (r .0))) (r .2);
-        not-other = not-true (near d b (r .0)) (and-right (near d a (r .0)) (not (near d b (r .0))) (r .2));
+        near-one = and-left (near d a (r .0)) (not (near d b (r .0))) told;
+        not-other = not-true (near d b (r .0)) (and-right (near d a (r .0)) (not (near d b (r .0))) told);
       }
 
   pub is-lonely : (a b : ℕ) → NearOnly d a b → lonely d a b ≡ true
   unfolding lonely
   is-lonely a b n =
-      is-some (λ c. near d a c && not (near d b c)) (highest + 1) (n .c) (omega (arith, n .byte))
-      (and-both (near d a (n .c)) (not (near d b (n .c))) (n .near-one) (not-of (near d b (n .c)) (n .not-other)))
+      is-some (λ c. leb lowest c && (near d a c && not (near d b c))) (highest + 1) (n .c) (omega (arith, n .byte))
+      (and-both (leb lowest (n .c)) (near d a (n .c) && not (near d b (n .c))) (le-leb lowest (n .c) (near-lowest d a (n .c) (n .near-one)))
+      (and-both (near d a (n .c)) (not (near d b (n .c))) (n .near-one) (not-of (near d b (n .c)) (n .not-other))))
 
   -- the two ends of what is near a decide
   abbrev pub ends : ℕ → ℕ → Bool
@@ -124,7 +127,7 @@ module _ (d : ℕ) where
       away : d < diff b c
       away = far-gt d b c real (n .not-other)
 
-  -- "some reading c from 0 to 255" by two readings
+  -- "some reading c" by two readings
   pub lonely-ends : (a b : ℕ) → a ≤ highest → lowest ≤ a → lonely d a b ≡ ends a b
   lonely-ends a b h r =
       same-test (lonely d a b) (ends a b) (λ e. only-ends a b (lonely-is a b e))
@@ -146,20 +149,3 @@ module _ (d a b l : ℕ) {nl : Bool} (byte : a ≤ highest) (real : lowest ≤ a
   pub high-decides : (h : ℕ) {nh : Bool} → nl ≡ true → h ≡ min highest (a + d) → nh ≡ near d b h → not nh ≡ lonely d a b
   high-decides h t high near-high =
       ap not (near-high ∙ ap (near d b) high) ∙ sym (by-ends ∙ ap (λ (t : Bool). not t || not (near d b (min highest (a + d)))) t)
-
--- ---- some reading is not near b
-pub record Far (d b : ℕ) : Type 0 where
-  pub c : ℕ
-  pub byte : c ≤ highest
-  pub far : near d b c ≡ false
-
-module _ (d b : ℕ) where
-  pub somewhere-is : somewhereFar d b ≡ true → Far d b
-  unfolding somewhereFar
-  somewhere-is e =
-      let r = some-is (λ c. not (near d b c)) (highest + 1) e in
-      record { c = r .0; byte = omega (arith, r .1); far = not-true (near d b (r .0)) (r .2) }
-
-  pub is-somewhere : Far d b → somewhereFar d b ≡ true
-  unfolding somewhereFar
-  is-somewhere f = is-some (λ c. not (near d b c)) (highest + 1) (f .c) (omega (arith, f .byte)) (not-of (near d b (f .c)) (f .far))

@@ -1,14 +1,16 @@
--- How long jumps are, and when a last-reading jump is 0. Assumes nothing.
-use Prim.Native.Nat.{ℕ, _+_, _-_, _*_, _≤_}
+-- How long jumps are, when a last-reading jump is 0, and the jumps of a reading that is near to no point. Assumes nothing.
+use Prim.Native.Nat.{ℕ, _+_, _-_, _*_, _≤_, _<_}
 use mathlib.Core.Path.{_≡_}
-use mathlib.Core.Bool.{Bool, true}
+use mathlib.Core.Bool.{Bool, true, false}
 use mathlib.Core.List.{List}
 use native.Mathlib.Omega.{arith}
 use lib.ListN.{length, getD}
 use Rattle.fit.specs.Reading.{alike}
+use Rattle.fit.specs.Place.{fitOf}
+use Rattle.fit.proofs.Laws.Readings.{zero-far}
 use Rattle.jumps.specs.Least.{greatest}
 use Rattle.jumps.specs.Jumps.{lastJump, nextJump, afterJump, mismatchAt, mismatchJump, fullAt, fullJump}
-use Rattle.jumps.proofs.Laws.Leasts.{greatest-le, greatest-holds, greatest-hit, least-ge, least-le}
+use Rattle.jumps.proofs.Laws.Leasts.{greatest-le, greatest-holds, greatest-absent, greatest-hit, least-ge, least-le}
 
 module _ (near : ℕ → ℕ → Bool) (m a : ℕ) where
   pub last-jump-le : lastJump near m a ≤ m
@@ -29,9 +31,21 @@ module _ (near : ℕ → ℕ → Bool) (m a : ℕ) where
   pub next-jump-le : nextJump near m a ≤ m + 1
   next-jump-le = omega arith
 
+  -- "m if there is none"
+  pub last-jump-most : ((i : ℕ) → i < m → near i a ≡ false) → lastJump near m a ≡ m
+  last-jump-most far = let none = greatest-absent (λ i. near i a) m far in omega arith
+
   -- the next-reading jump is one more than the last-reading jump of the same reading
   pub next-is-last : nextJump near m a ≡ lastJump near m a + 1
   next-is-last = let le : greatest (λ i. near i a) m ≤ m = greatest-le (λ i. near i a) m in omega arith
+
+-- "Last-reading and next-reading jumps for 0 become m and m + 1" (#103), whatever the points
+module _ (d : ℕ) (x : List ℕ) where
+  pub last-of-zero : lastJump (fitOf d x) (length x) 0 ≡ length x
+  last-of-zero = last-jump-most (fitOf d x) (length x) 0 (λ i l. zero-far d (getD x i 0))
+
+  pub next-of-zero : nextJump (fitOf d x) (length x) 0 ≡ length x + 1
+  next-of-zero = let same = next-is-last (fitOf d x) (length x) 0 in omega (arith, same, last-of-zero)
 
 module _ (d : ℕ) (x : List ℕ) (some : 1 ≤ length x) where
   pub after-jump-ge : 1 ≤ afterJump d x

@@ -6,7 +6,7 @@ use Prim.Native.Nat.{ℕ, _+_, _≤_}
 use native.Mathlib.Omega.{arith}
 use Rattle.fit.specs.Reading.{diff, near}
 use Rattle.fit.proofs.Laws.Bools.{either}
-use Rattle.fit.proofs.Laws.Readings.{near-le}
+use Rattle.fit.proofs.Laws.Readings.{near-le, zero-far}
 use Rattle.packed.specs.Adding.{added}
 
 module _ (d g p a : ℕ) where
@@ -17,6 +17,10 @@ module _ (d g p a : ℕ) where
   pub added-far : near d p a ≡ false → added d g p a ≡ g + 1
   unfolding added
   added-far e = rw e
+
+  -- a reading of 0 adds g + 1 at every point
+  pub added-zero : a ≡ 0 → added d g p a ≡ g + 1
+  added-zero e = added-far (rw e (zero-far d p))
 
   -- an addition of at most g is that of a reading that is near
   pub added-fits : added d g p a ≤ g → near d p a ≡ true

@@ -17,9 +17,10 @@ use Rattle.counters.specs.Sound.{Sound}
 use Rattle.counters.specs.declared.Masks.{Masks}
 use Rattle.counters.proofs.Laws.Widths.{one-shifted}
 use Rattle.counters.proofs.Laws.Ends.{moved-first, moved-next, stepped-is, enters, all-above, last-below}
-use Rattle.packed.specs.Adding.{summing}
+use Rattle.packed.specs.Adding.{addedOf, summing}
 use Rattle.packed.specs.Separate.{after}
 use Rattle.packed.specs.Tables.{costIn, Follows, soughtIn}
+use Rattle.packed.proofs.Laws.Costing.{added-zero}
 
 -- ---- the separate sums
 module _ (g : ℕ) (cost : ℕ → ℕ → ℕ) (y : List ℕ) where
@@ -48,6 +49,11 @@ module _ (g : ℕ) (cost : ℕ → ℕ → ℕ) (y : List ℕ) where
   early zero i h = omega arith
   early (suc j) zero h = absurd (omega arith)
   early (suc j) (suc i) h = omega (arith, after-next j i, early j i (omega arith))
+
+-- after a reading of 0 every separate sum is above g
+pub zero-above : (d g : ℕ) (x y : List ℕ) (j i : ℕ) → getD y j 0 ≡ 0 → g < after g (addedOf d g x) y (suc j) i
+zero-above d g x y j zero e = omega (arith, after-first g (addedOf d g x) y j, added-zero d g (getD x 0 0) (getD y j 0) e)
+zero-above d g x y j (suc i) e = omega (arith, after-next g (addedOf d g x) y j i, added-zero d g (getD x (suc i) 0) (getD y j 0) e)
 
 -- ---- the word
 module _ (k : Masks) (ok : Sound k) where

@@ -9,10 +9,10 @@ use lib.ListN.{length}
 use lib.Dec.{eqb, ltb}
 use borrow.Author.Tests.{eqb-true, eq-eqb, ltb-true, lt-ltb}
 use Rattle.fit.specs.Chain.{FirstInOrder}
-use Rattle.fit.specs.Refusal.{orElse, maxPoints, questionReasons, questionRefusal, BadProfile, BadTolerance, Asked}
+use Rattle.fit.specs.Refusal.{orElse, maxPoints, questionReasons, questionRefusal, HoldsZero, BadProfile, BadTolerance, Asked}
 use Rattle.fit.proofs.Laws.Bools.{or-cases, or-left, or-right, at-most}
 use Rattle.fit.proofs.Laws.Chains.{has, behind, ahead, first-exactly, zero-exactly, in-order, joined, none-both, one-spared}
-use Rattle.fit.proofs.Laws.Refusals.{question-spared, asked-one-exactly, asked-seven-exactly, asked-two-exactly}
+use Rattle.fit.proofs.Laws.Refusals.{question-spared, asked-one-exactly, asked-seven-exactly, asked-eight-exactly, asked-two-exactly}
 use Rattle.questions.specs.declared.Jump.{Jump}
 use Rattle.questions.specs.Asking.{jumpAnswer, noPoint, BadPoint, ofPoint, mismatchReasons, mismatchRefusal}
 
@@ -52,7 +52,7 @@ pub record MismatchAsked (delta gamma : ℕ) (x : List ℕ) (p : ℕ) : Type 0 w
   pub from-one : 1 ≤ p
   pub to-last : p ≤ length x
 
--- ---- the mismatch question: 1, 7, 2, 6
+-- ---- the mismatch question: 1, 7, 8, 2, 6
 module _ (delta gamma : ℕ) (x : List ℕ) (p : ℕ) where
   -- a number of every question is given exactly where every question would have it
   as-question : (num : ℕ) → 1 ≤ num → has num (noPoint (length x) p ∷ []) ≡ false → (mismatchRefusal delta gamma x p ≡ num) ↔ (questionRefusal delta gamma x ≡ num)
@@ -66,6 +66,10 @@ module _ (delta gamma : ℕ) (x : List ℕ) (p : ℕ) where
   -- "7 for m > 64", and no reason before it applies
   pub mismatch-seven-exactly : (mismatchRefusal delta gamma x p ≡ 7) ↔ ((length x ≡ 0 → ⊥) × (maxPoints < length x))
   mismatch-seven-exactly = Iff·trans (as-question 7 (omega arith) refl) (asked-seven-exactly delta gamma x)
+
+  -- "8 for a profile holding a 0, after 7", and no reason before it applies
+  pub mismatch-eight-exactly : (mismatchRefusal delta gamma x p ≡ 8) ↔ ((length x ≡ 0 → ⊥) × ((maxPoints < length x → ⊥) × HoldsZero x))
+  mismatch-eight-exactly = Iff·trans (as-question 8 (omega arith) refl) (asked-eight-exactly delta gamma x)
 
   -- No. 2: "delta > 255 or gamma > 16,320", and no reason before it applies
   pub mismatch-two-exactly : (mismatchRefusal delta gamma x p ≡ 2) ↔ ((BadProfile x → ⊥) × BadTolerance delta gamma)
