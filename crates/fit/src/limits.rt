@@ -158,12 +158,12 @@ fn of_profile(points: &[u8]) -> u32
 fn holds_zero(points: &[u8]) -> bool
     ensures { λ r. ⌜ r ≡ holdsZero (now (points .entry)) ⌝ }
 {
-    let mut i = 0;
-    while i < points.len() {
-        if points[i] == 0 {
+    let mut p = 0;
+    while p < points.len() {
+        if points[p] == 0 {
             return true;
         }
-        i += 1;
+        p += 1;
     }
     false
 }

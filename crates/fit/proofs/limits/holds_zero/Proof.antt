@@ -1,4 +1,4 @@
--- `fit::limits::holds_zero` meets its contract: none of the first i points is 0. Assumes nothing.
+-- `fit::limits::holds_zero` meets its contract: none of the first p points is 0. Assumes nothing.
 use Prim.Native.Nat.{ℕ, _-_, _<_}
 use mathlib.Core.Path.{_≡_, sym}
 use native.Mathlib.Nat.{not-suc-le-zero}
@@ -10,10 +10,10 @@ use Rattle.fit.proofs.limits.holds_zero.Statement.{statement}
 use Rattle.fit.proofs.limits.holds_zero.Tie as tie
 
 abbrev Inv-loop : tie.InvT-loop
-Inv-loop points i₀ i = (j : ℕ) → j < i → getD points j 0 ≡ 0 → ⊥
+Inv-loop points p₀ p = (j : ℕ) → j < p → getD points j 0 ≡ 0 → ⊥
 
 abbrev μ-loop : tie.MeasureT-loop
-μ-loop points i₀ i = length points - i
+μ-loop points p₀ p = length points - p
 
 loop-holds : tie.Need-loop-holds Inv-loop μ-loop
 loop-holds c = λ j h e. not-suc-le-zero h
@@ -24,8 +24,8 @@ shared-slice-read-if1 c = omega arith
 returns : tie.Need-returns Inv-loop μ-loop
 returns c = sym (zero-at (c .before .before .before .before .args .points .now) _ (c .if1 .taken) (omega arith))
 
-add-i : tie.Need-add-i Inv-loop μ-loop
-add-i c = omega arith
+add-p : tie.Need-add-p Inv-loop μ-loop
+add-p c = omega arith
 
 loop-less : tie.Need-loop-less Inv-loop μ-loop
 loop-less c = omega arith
@@ -45,7 +45,7 @@ holds-zero-spec =
     loop-holds
     shared-slice-read-if1
     returns
-    add-i
+    add-p
     loop-less
     loop-again
     returns-2)
