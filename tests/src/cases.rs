@@ -35,6 +35,12 @@ impl Draw {
     fn readings(&mut self, count: usize, alphabet: &[u8]) -> Vec<u8> {
         (0..count).map(|_| self.one_of(alphabet)).collect()
     }
+
+    /// Readings that can be points: 0 is to be none (#103), and most cases are to be searched.
+    fn points(&mut self, count: usize, alphabet: &[u8]) -> Vec<u8> {
+        let pressures: Vec<u8> = alphabet.iter().copied().filter(|&a| a > 0).collect();
+        self.readings(count, &pressures)
+    }
 }
 
 const ANY: [u8; 256] = {
@@ -52,7 +58,10 @@ const ENDS: [u8; 8] = [0, 1, 2, 3, 252, 253, 254, 255];
 /// A profile and a recording; the length of the lent list is drawn afterwards.
 type Made = (Profile, Vec<u8>);
 
-const KINDS: [fn(&mut Draw) -> Made; 16] = [
+type Kind = fn(&mut Draw) -> Made;
+
+/// Kinds whose profiles are accepted.
+const ORDINARY: [Kind; 15] = [
     few_readings,
     ends_of_the_readings,
     sums_about_gamma,
@@ -68,14 +77,15 @@ const KINDS: [fn(&mut Draw) -> Made; 16] = [
     no_tolerance,
     block_borders,
     block_borders_all_near,
-    refused,
 ];
+const REFUSED: [Kind; 2] = [refused, refused];
 
 /// One case in so many is long: refused, for its length or before that, or as long as is accepted.
 const LONG_EVERY: usize = 250;
 
 pub fn cases(count: usize, seed: u64) -> impl Iterator<Item = Case> {
     let sheet = sheet();
+    let kinds = [&ORDINARY[..], &REFUSED].concat();
     let mut draw = Draw(seed);
     (0..count).map(move |number| {
         let (profile, recording) = if number < sheet.len() {
@@ -83,7 +93,7 @@ pub fn cases(count: usize, seed: u64) -> impl Iterator<Item = Case> {
         } else if number % LONG_EVERY == LONG_EVERY - 1 {
             long_recording(&mut draw, number / LONG_EVERY)
         } else {
-            KINDS[number % KINDS.len()](&mut draw)
+            kinds[number % kinds.len()](&mut draw)
         };
         let room = room(&mut draw, &profile, &recording);
         Case { profile, recording, room }
@@ -132,26 +142,27 @@ fn few_readings(draw: &mut Draw) -> Made {
     let n = draw.length(0, 60);
     let delta = draw.number(0, many);
     let gamma = draw.number(0, delta * m as u32 + 2);
-    (profile(draw.readings(m, &alphabet), delta, gamma), draw.readings(n, &alphabet))
+    (profile(draw.points(m, &alphabet), delta, gamma), draw.readings(n, &alphabet))
 }
 
 fn ends_of_the_readings(draw: &mut Draw) -> Made {
-    let alphabet = draw.one_of(&[&ENDS[..], &ENDS[..4], &ENDS[4..], &[0, 255], &[253, 255]]);
+    let alphabet = draw.one_of(&[&ENDS[..], &ENDS[..4], &ENDS[1..4], &ENDS[4..], &[0, 255], &[1, 255], &[253, 255]]);
     let m = draw.length(1, 8);
     let n = draw.length(0, 50);
     let delta = draw.one_of(&[0, 1, 1, 2, 3, 127, 128, 251, 252, 253, 254, 255]);
     let gamma = draw.one_of(&[0, 1, delta, delta + 1, 2 * delta, m as u32 * delta, 16_320]);
-    (profile(draw.readings(m, alphabet), delta, gamma), draw.readings(n, alphabet))
+    (profile(draw.points(m, alphabet), delta, gamma), draw.readings(n, alphabet))
 }
 
-/// A window about the points with differences of at most delta, as far as they can go, that sum to the number asked for.
+/// A window about the points with differences of at most delta, as far as they can go, that sum to the number asked for. It holds no 0,
+/// which is to keep it from being a place (#103), whatever its sum.
 fn window_of_sum(draw: &mut Draw, points: &[u8], delta: u32, sum: u32) -> Vec<u8> {
     let mut differences = vec![0u32; points.len()];
     let up: Vec<bool> = points.iter().map(|_| draw.from(0, 1) == 1).collect();
     for _ in 0..sum {
         let free: Vec<usize> = (0..points.len())
             .filter(|&i| {
-                let ends = if up[i] { 255 - points[i] } else { points[i] };
+                let ends = if up[i] { 255 - points[i] } else { points[i] - 1 };
                 differences[i] < delta && differences[i] < ends as u32
             })
             .collect();
@@ -195,12 +206,12 @@ fn one_point(draw: &mut Draw) -> Made {
     let delta = draw.one_of(&[0, 1, 2, 100, 254, 255]);
     let gamma = draw.one_of(&[0, 1, 2, delta, delta + 1, 254, 255, 16_320]);
     let n = draw.length(0, 40);
-    (profile(draw.readings(1, alphabet), delta, gamma), draw.readings(n, alphabet))
+    (profile(draw.points(1, alphabet), delta, gamma), draw.readings(n, alphabet))
 }
 
 fn sixty_four_points(draw: &mut Draw) -> Made {
-    let alphabet = draw.one_of(&[&ANY[..], &ANY[..2], &ANY[250..], &ANY[40..44], &[7]]);
-    let points = draw.readings(64, alphabet);
+    let alphabet = draw.one_of(&[&ANY[..], &ANY[1..3], &ANY[250..], &ANY[40..44], &[7]]);
+    let points = draw.points(64, alphabet);
     let delta = draw.one_of(&[0, 0, 1, 3, 60, 255]);
     let gamma = draw.one_of(&[0, 0, 1, 20, 64, 64 * delta, 16_320]);
     let mut recording = Vec::new();
@@ -229,7 +240,7 @@ fn constant_recording(draw: &mut Draw) -> Made {
     let reading = draw.one_of(&[0, 1, 77, 128, 254, 255]);
     let m = draw.one_of(&[1, 2, 3, 7, 8, 20]);
     let close: Vec<u8> = (reading.max(2) - 2..=reading.min(253) + 2).collect();
-    let points = if draw.from(0, 1) == 0 { vec![reading; m] } else { draw.readings(m, &close) };
+    let points = if draw.from(0, 1) == 0 { vec![reading.max(1); m] } else { draw.points(m, &close) };
     let delta = draw.number(0, 3);
     let gamma = draw.number(0, m as u32 * 2);
     let n = draw.length(0, 60);
@@ -263,16 +274,16 @@ fn tolerances_of_any_size(draw: &mut Draw) -> Made {
     let most = draw.one_of(&[delta, m as u32 * delta, 16_320]);
     let gamma = draw.number(0, most);
     let n = draw.length(0, 80);
-    (profile(draw.readings(m, &ANY), delta, gamma), draw.readings(n, &ANY))
+    (profile(draw.points(m, &ANY), delta, gamma), draw.readings(n, &ANY))
 }
 
 /// As a stocking is: each reading close to the one before it; the profile is a part of it, changed a little.
 fn smooth_recording(draw: &mut Draw) -> Made {
     let n = draw.length(20, 100);
-    let mut reading = draw.number(0, 255) as i64;
+    let mut reading = draw.number(1, 255) as i64;
     let mut recording = Vec::new();
     for _ in 0..n {
-        reading = (reading + draw.from(0, 6) as i64 - 3).clamp(0, 255);
+        reading = (reading + draw.from(0, 6) as i64 - 3).clamp(1, 255);
         recording.push(reading as u8);
     }
     let m = draw.length(1, 20);
@@ -289,12 +300,12 @@ fn repeating_profile(draw: &mut Draw) -> Made {
     let low = draw.one_of(&[0, 0, 90, 250]);
     let alphabet: Vec<u8> = (low..=low + 5).collect();
     let period = draw.length(1, 6);
-    let unit = draw.readings(period, &alphabet);
+    let unit = draw.points(period, &alphabet);
     let m = draw.length(1, 24);
     let mut points: Vec<u8> = unit.iter().copied().cycle().take(m).collect();
     for _ in 0..draw.from(0, 2) {
         let i = draw.length(0, m - 1);
-        points[i] = draw.one_of(&alphabet);
+        points[i] = draw.points(1, &alphabet)[0];
     }
     let n = draw.length(0, 80);
     let mut recording: Vec<u8> = unit.iter().copied().cycle().take(n).collect();
@@ -311,10 +322,10 @@ fn repeating_profile(draw: &mut Draw) -> Made {
 /// delta 0, gamma 0, or both; and the two far apart, so that d and g differ from delta and gamma.
 fn no_tolerance(draw: &mut Draw) -> Made {
     let (delta, gamma) = draw.one_of(&[(0, 0), (0, 0), (0, 50), (5, 0), (255, 1), (255, 2), (1, 16_320), (0, 16_320), (255, 0)]);
-    let alphabet = draw.one_of(&[&ANY[7..9], &ANY[..2], &ANY[254..], &ANY[100..104]]);
+    let alphabet = draw.one_of(&[&ANY[7..9], &ANY[..3], &ANY[1..3], &ANY[254..], &ANY[100..104]]);
     let m = draw.length(1, 7);
     let n = draw.length(0, 60);
-    (profile(draw.readings(m, alphabet), delta, gamma), draw.readings(n, alphabet))
+    (profile(draw.points(m, alphabet), delta, gamma), draw.readings(n, alphabet))
 }
 
 /// A searcher may take this many windows at a time, and then the rest one by one.
@@ -382,15 +393,16 @@ fn reading_beside(draw: &mut Draw, profile: &Profile, first: bool, rest: &[u8]) 
 /// gamma + 1 but where there is a closer reading.
 fn block_borders_all_near(draw: &mut Draw) -> Made {
     let windows = windows_about_blocks(draw);
-    let m = draw.one_of(&[1, 2, 3, 8, 20, 64, 64, 64]);
-    let far = draw.one_of(&[2, 3, 256 / m as u32, 255, 255]).min(255);
+    let m = draw.one_of(&[1, 2, 3, 8, 20, 64, 64, 64, 64]);
+    // two readings that are not 0 differ by 254 at most
+    let far = draw.one_of(&[2, 3, 256 / m as u32, 254, 254, 254, 254]).min(254);
     let closer = draw.number(1, (far / 2).min(3));
     // a window of one point has one reading that is closer, any other two
     let less = closer * m.min(2) as u32;
     let gamma = m as u32 * far - draw.one_of(&[0, 1, less, less, less + 1]);
     let delta = draw.one_of(&[far, 255]);
     let upward = draw.from(0, 1) == 0;
-    let reading = |difference: u32| if upward { difference as u8 } else { 255 - difference as u8 };
+    let reading = |difference: u32| if upward { 1 + difference as u8 } else { 255 - difference as u8 };
     let mut recording = vec![reading(far); windows + m - 1];
     for s in some_borders(draw, windows) {
         recording[s] = reading(far - closer);
@@ -399,14 +411,13 @@ fn block_borders_all_near(draw: &mut Draw) -> Made {
     (profile(vec![reading(0); m], delta, gamma), recording)
 }
 
-const BAD_M: [usize; 7] = [0, 0, 65, 65, 66, 128, 300];
-const BAD_DELTA: [u32; 5] = [256, 256, 257, 70_000, u32::MAX];
-const BAD_GAMMA: [u32; 5] = [16_321, 16_321, 16_322, 1 << 31, u32::MAX];
+const TOO_MANY: [usize; 6] = [65, 65, 65, 66, 128, 300];
+const BAD_DELTA: [u32; 6] = [256, 256, 256, 257, 70_000, u32::MAX];
+const BAD_GAMMA: [u32; 6] = [16_321, 16_321, 16_321, 16_322, 1 << 31, u32::MAX];
 
-/// Refusals 1, 7, 2 and 4, alone and together, and the values next to them that are accepted.
-fn refused(draw: &mut Draw) -> Made {
-    let m = if draw.from(0, 2) == 0 { draw.one_of(&BAD_M) } else { draw.one_of(&[1, 3, 64]) };
-    let (delta, gamma) = match draw.from(0, 4) {
+/// These points with tolerances that are refused by 2, for the one or the other or both, and just as often with accepted ones.
+fn with_bad_or_good_tolerances(draw: &mut Draw, points: Vec<u8>) -> Made {
+    let (delta, gamma) = match draw.from(0, 5) {
         0 => (draw.one_of(&BAD_DELTA), draw.number(0, 16_320)),
         1 => (draw.number(0, 255), draw.one_of(&BAD_GAMMA)),
         2 => (draw.one_of(&BAD_DELTA), draw.one_of(&BAD_GAMMA)),
@@ -414,7 +425,15 @@ fn refused(draw: &mut Draw) -> Made {
         _ => (draw.number(0, 255), draw.number(0, 16_320)),
     };
     let n = draw.length(0, 80);
-    (profile(draw.readings(m, &ANY), delta, gamma), draw.readings(n, &ANY))
+    (profile(points, delta, gamma), draw.readings(n, &ANY))
+}
+
+/// Refusals 1, 7, 2 and 4, alone and together, and the values next to them that are accepted.
+fn refused(draw: &mut Draw) -> Made {
+    let too_many = draw.one_of(&TOO_MANY);
+    let m = draw.one_of(&[0, too_many, too_many, 1, 3, 64]);
+    let points = draw.points(m, &ANY);
+    with_bad_or_good_tolerances(draw, points)
 }
 
 /// A recording that is too long by one, alone and with each other refusal and two of them, and one that is not.
