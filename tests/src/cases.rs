@@ -36,7 +36,7 @@ impl Draw {
         (0..count).map(|_| self.one_of(alphabet)).collect()
     }
 
-    /// Readings that can be points: 0 is to be none (#103), and most cases are to be searched.
+    /// Readings that can be points: a profile holding a 0 is refused, and most cases are to be searched.
     fn points(&mut self, count: usize, alphabet: &[u8]) -> Vec<u8> {
         let pressures: Vec<u8> = alphabet.iter().copied().filter(|&a| a > 0).collect();
         self.readings(count, &pressures)
@@ -60,7 +60,7 @@ type Made = (Profile, Vec<u8>);
 
 type Kind = fn(&mut Draw) -> Made;
 
-/// Kinds whose profiles are accepted.
+/// Kinds that need no 0 for what they try, and whose profiles are accepted.
 const ORDINARY: [Kind; 15] = [
     few_readings,
     ends_of_the_readings,
@@ -78,14 +78,16 @@ const ORDINARY: [Kind; 15] = [
     block_borders,
     block_borders_all_near,
 ];
-const REFUSED: [Kind; 2] = [refused, refused];
+const ZEROS: [Kind; 3] = [zeros_within_tolerance, zeros_alone_decide, contact_lost];
+const REFUSED: [Kind; 3] = [refused, refused, zero_in_the_profile];
 
-/// One case in so many is long: refused, for its length or before that, or as long as is accepted.
-const LONG_EVERY: usize = 250;
+/// One case in so many is long: refused, for its length or before that, or as long as is accepted. No kind always gives way to it, since
+/// the number of kinds does not divide this one.
+const LONG_EVERY: usize = 199;
 
 pub fn cases(count: usize, seed: u64) -> impl Iterator<Item = Case> {
     let sheet = sheet();
-    let kinds = [&ORDINARY[..], &REFUSED].concat();
+    let kinds = [&ORDINARY[..], &ZEROS, &REFUSED].concat();
     let mut draw = Draw(seed);
     (0..count).map(move |number| {
         let (profile, recording) = if number < sheet.len() {
@@ -155,7 +157,7 @@ fn ends_of_the_readings(draw: &mut Draw) -> Made {
 }
 
 /// A window about the points with differences of at most delta, as far as they can go, that sum to the number asked for. It holds no 0,
-/// which is to keep it from being a place (#103), whatever its sum.
+/// which would keep it from being a place for another reason than its sum.
 fn window_of_sum(draw: &mut Draw, points: &[u8], delta: u32, sum: u32) -> Vec<u8> {
     let mut differences = vec![0u32; points.len()];
     let up: Vec<bool> = points.iter().map(|_| draw.from(0, 1) == 1).collect();
@@ -339,9 +341,14 @@ fn windows_about_blocks(draw: &mut Draw) -> usize {
     }
 }
 
-/// The first and last windows of blocks, and the very last window; all of them, or just one.
+/// The first and last windows of blocks, and the very last window.
+fn borders(windows: usize) -> Vec<usize> {
+    (0..windows).filter(|s| s % BLOCK == 0 || s % BLOCK == BLOCK - 1 || s + 1 == windows).collect()
+}
+
+/// All of them, some, or just one.
 fn some_borders(draw: &mut Draw, windows: usize) -> Vec<usize> {
-    let borders: Vec<usize> = (0..windows).filter(|s| s % BLOCK == 0 || s % BLOCK == BLOCK - 1 || s + 1 == windows).collect();
+    let borders = borders(windows);
     match draw.from(0, 3) {
         0 => borders,
         1 => borders.into_iter().filter(|_| draw.from(0, 1) == 0).collect(),
@@ -411,6 +418,78 @@ fn block_borders_all_near(draw: &mut Draw) -> Made {
     (profile(vec![reading(0); m], delta, gamma), recording)
 }
 
+/// A window about the points that holds a 0 at its first, an inner or its last reading. The 0 adds its difference to the sum, so that the
+/// window has the sum asked for as far as differences go.
+fn window_with_zero(draw: &mut Draw, points: &[u8], delta: u32, sum: u32) -> Vec<u8> {
+    let at = draw.one_of(&[0, points.len() / 2, points.len() - 1]);
+    let mut others = points.to_vec();
+    let point = others.remove(at);
+    let mut window = window_of_sum(draw, &others, delta, sum.saturating_sub(point as u32));
+    window.insert(at, 0);
+    window
+}
+
+/// Most points are so small that 0 differs from them by at most delta. Windows have sums about gamma, with a 0 or without one, and between
+/// them stand small readings or zeros.
+fn zeros_within_tolerance(draw: &mut Draw) -> Made {
+    let m = draw.one_of(&[1, 2, 3, 5, 9, 20]);
+    let delta = draw.number(1, 9);
+    let some = draw.number(1, delta * m as u32);
+    let gamma = draw.one_of(&[some, delta * m as u32]);
+    let highest = draw.one_of(&[1, delta, delta + 1, 2 * delta]);
+    let small = &ANY[..=highest as usize];
+    let points = draw.points(m, small);
+    let mut recording = Vec::new();
+    for _ in 0..draw.from(1, 5) {
+        let sum = gamma - 1 + draw.number(0, 2);
+        let window = draw.one_of(&[window_of_sum, window_with_zero, window_with_zero]);
+        recording.extend(window(draw, &points, delta, sum));
+        let gap = draw.one_of(&[0, 0, 1, 2, m]);
+        let between = draw.one_of(&[small, &[0]]);
+        recording.extend(draw.readings(gap, between));
+    }
+    (profile(points, delta, gamma), recording)
+}
+
+/// Zeros at either end, anywhere, at the readings of some of these windows or directly after them, one alone or a run; now and then there
+/// is no other reading.
+fn lose_contact(draw: &mut Draw, m: usize, windows: &[usize], recording: &mut [u8]) {
+    let n = recording.len();
+    if n == 0 || draw.from(0, 15) == 0 {
+        return recording.fill(0);
+    }
+    for _ in 0..draw.from(1, 3) {
+        let anywhere = draw.length(0, n - 1);
+        let s = if windows.is_empty() { anywhere } else { draw.one_of(windows) };
+        let at = draw.one_of(&[0, n - 1, anywhere, s, s + m / 2, s + m - 1, s + m]).min(n - 1);
+        let run = draw.one_of(&[1, 1, 1, 2, m]).min(n - at);
+        recording[at..at + run].fill(0);
+    }
+}
+
+/// Every difference is at most delta and every sum at most gamma, with tolerances that just allow it or the greatest: only a 0 keeps a
+/// window from being a place. Zeros stand about the borders of blocks.
+fn zeros_alone_decide(draw: &mut Draw) -> Made {
+    let windows = windows_about_blocks(draw);
+    let m = draw.one_of(&[1, 2, 3, 8, 20, 64]);
+    let highest = draw.one_of(&[1, 2, 6, 255, 255]);
+    let points = draw.points(m, &ANY[..=highest]);
+    let mut recording = draw.readings(windows + m - 1, &ANY[1..=highest]);
+    lose_contact(draw, m, &borders(windows), &mut recording);
+    let delta = draw.one_of(&[highest as u32, 255]);
+    let gamma = draw.one_of(&[(m * highest) as u32, 16_320]);
+    (profile(points, delta, gamma), recording)
+}
+
+/// A case of an ordinary kind, where contact was lost at some readings of its places, directly after them, or elsewhere.
+fn contact_lost(draw: &mut Draw) -> Made {
+    let kind = draw.one_of(&ORDINARY);
+    let (profile, mut recording) = kind(draw);
+    let places: Vec<usize> = reference::places(&profile, &recording).into_iter().map(|s| s as usize).collect();
+    lose_contact(draw, profile.points.len(), &places, &mut recording);
+    (profile, recording)
+}
+
 const TOO_MANY: [usize; 6] = [65, 65, 65, 66, 128, 300];
 const BAD_DELTA: [u32; 6] = [256, 256, 256, 257, 70_000, u32::MAX];
 const BAD_GAMMA: [u32; 6] = [16_321, 16_321, 16_321, 16_322, 1 << 31, u32::MAX];
@@ -436,20 +515,47 @@ fn refused(draw: &mut Draw) -> Made {
     with_bad_or_good_tolerances(draw, points)
 }
 
-/// A recording that is too long by one, alone and with each other refusal and two of them, and one that is not.
+/// Refusal 8, alone and together with 7, 2 and 4.
+fn zero_in_the_profile(draw: &mut Draw) -> Made {
+    let too_many = draw.one_of(&TOO_MANY);
+    let m = draw.one_of(&[too_many, too_many, 1, 2, 3, 64, 64]);
+    let mut points = draw.points(m, &ANY);
+    put_zeros(draw, &mut points);
+    with_bad_or_good_tolerances(draw, points)
+}
+
+/// Zeros in a profile: one, at either end, inside or anywhere, or all of its points.
+fn put_zeros(draw: &mut Draw, points: &mut [u8]) {
+    let m = points.len();
+    let anywhere = draw.length(0, m - 1);
+    let at = draw.one_of(&[0, m / 2, m - 1, anywhere]);
+    let (first, count) = draw.one_of(&[(at, 1), (at, 1), (at, 1), (0, m)]);
+    points[first..first + count].fill(0);
+}
+
+/// A recording that is too long by one, alone and with each other refusal and two of them, and one that is not. Small readings, so that
+/// 0 is among them, and within delta of some points.
 fn long_recording(draw: &mut Draw, turn: usize) -> Made {
-    let (m, delta, gamma, n) = [
-        (3, 1, 2, 1_000_001),
-        (9, 3, 10, 1_000_000),
-        (64, 255, 16_320, 1_000_001),
-        (0, 1, 2, 1_000_001),
-        (65, 1, 2, 1_000_001),
-        (64, 256, 16_321, 1_000_001),
-        (0, 256, 16_321, 1_000_001),
-        (65, 256, 16_321, 1_000_001),
-    ][turn % 8];
-    let alphabet = &ANY[40..50];
-    (profile(draw.readings(m, alphabet), delta, gamma), draw.readings(n, alphabet))
+    // and whether the profile holds a 0
+    let turns = [
+        (3, 1, 2, 1_000_001, false),
+        (9, 3, 10, 1_000_000, false),
+        (64, 255, 16_320, 1_000_001, false),
+        (0, 1, 2, 1_000_001, false),
+        (65, 1, 2, 1_000_001, false),
+        (64, 256, 16_321, 1_000_001, false),
+        (0, 256, 16_321, 1_000_001, false),
+        (65, 256, 16_321, 1_000_001, false),
+        (3, 1, 2, 1_000_001, true),
+        (64, 256, 16_321, 1_000_001, true),
+    ];
+    let (m, delta, gamma, n, zero) = turns[turn % turns.len()];
+    let small = &ANY[..11];
+    let mut points = draw.points(m, small);
+    if zero {
+        put_zeros(draw, &mut points);
+    }
+    (profile(points, delta, gamma), draw.readings(n, small))
 }
 
 #[cfg(test)]
