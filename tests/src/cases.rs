@@ -562,27 +562,50 @@ fn long_recording(draw: &mut Draw, turn: usize) -> Made {
 mod coverage {
     use super::*;
     use crate::frames;
-    use crate::reference::{counter_width, first, places, refusal_of_profile, refusal_of_search, First, Searcher};
+    use crate::reference::{after_check, counter_width, first, last_reading, places, walk};
+    use crate::reference::{refusal_of_profile, refusal_of_search, First, Searcher};
 
-    /// The sum of differences at a window, if they are all at most delta.
-    fn near_sum(profile: &Profile, window: &[u8]) -> Option<u32> {
+    /// The sum of differences at a window, if they are all at most delta; by difference alone, whether it holds a 0 or not.
+    fn sum_within_delta(profile: &Profile, window: &[u8]) -> Option<u32> {
         let differences = window.iter().zip(&profile.points).map(|(y, x)| y.abs_diff(*x) as u32);
         differences.clone().all(|difference| difference <= profile.delta).then(|| differences.sum())
     }
 
-    /// The case's sums of differences at windows whose differences are all at most delta, each with its window.
-    fn near_sums(case: &Case) -> Vec<(i64, u32)> {
-        let windows = case.recording.windows(case.profile.points.len().max(1));
-        (0..).zip(windows).filter_map(|(s, window)| Some((s, near_sum(&case.profile, window)?))).collect()
+    fn count_of_windows(case: &Case) -> usize {
+        (case.recording.len() + 1).saturating_sub(case.profile.points.len())
     }
 
-    /// Where places, sums and the end of the list stand among blocks of windows; what is less than 64 windows is no block.
+    /// The windows of an accepted case, each with its readings.
+    fn windows(case: &Case) -> impl Iterator<Item = (i64, &[u8])> {
+        (0..).zip(case.recording.windows(case.profile.points.len()))
+    }
+
+    /// The case's sums of differences at windows without a 0 whose differences are all at most delta, each with its window.
+    fn near_sums(case: &Case) -> Vec<(i64, u32)> {
+        let pressures = windows(case).filter(|(_, window)| !window.contains(&0));
+        pressures.filter_map(|(s, window)| Some((s, sum_within_delta(&case.profile, window)?))).collect()
+    }
+
+    /// Whether a window stands in a whole block; what is less than 64 windows is no block.
+    fn in_whole_block(case: &Case, s: i64) -> bool {
+        s as usize / BLOCK < count_of_windows(case) / BLOCK
+    }
+
+    fn first_of_block(case: &Case, s: i64) -> bool {
+        in_whole_block(case, s) && s % BLOCK as i64 == 0
+    }
+
+    fn last_of_block(case: &Case, s: i64) -> bool {
+        in_whole_block(case, s) && s % BLOCK as i64 == BLOCK as i64 - 1
+    }
+
+    /// Where places, sums and the end of the list stand among blocks of windows.
     fn block_situations(case: &Case, found: &[i64], near: &[(i64, u32)]) -> Vec<(&'static str, bool)> {
         let block = BLOCK as i64;
-        let windows = (case.recording.len() + 1).saturating_sub(case.profile.points.len()) as i64;
-        let whole = |s: i64| s / block < windows / block;
-        let first = |s: i64| whole(s) && s % block == 0;
-        let last = |s: i64| whole(s) && s % block == block - 1;
+        let windows = count_of_windows(case) as i64;
+        let whole = |s: i64| in_whole_block(case, s);
+        let first = |s: i64| first_of_block(case, s);
+        let last = |s: i64| last_of_block(case, s);
         // the last place that the list has, and the one after it
         let ends = case.room.checked_sub(1).and_then(|k| found.get(k..k + 2));
         let gamma = case.profile.gamma;
@@ -608,31 +631,186 @@ mod coverage {
         ]
     }
 
+    /// A window that a 0 alone keeps from being a place, as differences go.
+    struct Spoilt {
+        s: i64,
+        sum: u32,
+        /// the readings that are 0, from 0 to m - 1
+        zeros: Vec<usize>,
+    }
+
+    fn spoilt(case: &Case) -> Vec<Spoilt> {
+        let with_zeros = windows(case).filter(|(_, window)| window.contains(&0));
+        with_zeros
+            .filter_map(|(s, window)| {
+                let sum = sum_within_delta(&case.profile, window).filter(|&sum| sum <= case.profile.gamma)?;
+                Some(Spoilt { s, sum, zeros: zeros_of(window) })
+            })
+            .collect()
+    }
+
+    fn zeros_of(readings: &[u8]) -> Vec<usize> {
+        (0..readings.len()).filter(|&i| readings[i] == 0).collect()
+    }
+
+    /// Whether the only zero stands inside, at neither end.
+    fn one_inside(zeros: &[usize], count: usize) -> bool {
+        matches!(zeros, [i] if (1..count - 1).contains(i))
+    }
+
+    /// Which 0 keeps a window from being a place, and by how little it would be one.
+    fn spoilt_situations(case: &Case, found: &[i64]) -> Vec<(&'static str, bool)> {
+        let (points, delta, gamma) = (&case.profile.points, case.profile.delta, case.profile.gamma);
+        let m = points.len();
+        let spoilt = spoilt(case);
+        let any = |test: &dyn Fn(&Spoilt) -> bool| spoilt.iter().any(test);
+        vec![
+            ("zero: spoils a window, the only reading", any(&|_| m == 1)),
+            ("zero: spoils a window, the first reading", any(&|w| m > 1 && w.zeros == [0])),
+            ("zero: spoils a window, an inner reading", any(&|w| one_inside(&w.zeros, m))),
+            ("zero: spoils a window, the last reading", any(&|w| m > 1 && w.zeros == [m - 1])),
+            ("zero: spoils a window, all readings", any(&|w| m > 1 && w.zeros.len() == m)),
+            ("zero: spoils a window of sum gamma", any(&|w| w.sum == gamma)),
+            ("zero: spoils a window, delta from its point", any(&|w| w.zeros.iter().any(|&i| points[i] as u32 == delta))),
+            ("zero: spoils a window, 64 points", any(&|_| m == 64)),
+            ("zero: spoils a window, greatest tolerances", any(&|_| delta == 255 && gamma == 16_320)),
+            ("zero: spoils a window, packed", any(&|_| refusal_of_search(Searcher::Packed, &case.profile, &case.recording) == 0)),
+            ("zero: spoils a window before the first place", any(&|w| found.first() > Some(&w.s))),
+            ("zero: spoils a window, and there is no place", any(&|_| found.is_empty())),
+            ("zero: spoils the first window of a block", any(&|w| first_of_block(case, w.s))),
+            (
+                "zero: spoils the first window of a block, not the next",
+                any(&|w| first_of_block(case, w.s) && found.contains(&(w.s + 1))),
+            ),
+            ("zero: spoils the last window of a block", any(&|w| last_of_block(case, w.s))),
+            (
+                "zero: spoils the last window of a block, not the one before",
+                any(&|w| last_of_block(case, w.s) && found.contains(&(w.s - 1))),
+            ),
+            ("zero: spoils a window behind the last block", any(&|w| w.s >= BLOCK as i64 && !in_whole_block(case, w.s))),
+        ]
+    }
+
+    /// Where zeros stand in the recording.
+    fn zero_situations(case: &Case, found: &[i64]) -> Vec<(&'static str, bool)> {
+        let (recording, m) = (&case.recording, case.profile.points.len());
+        let is_zero = |at: Option<usize>| at.and_then(|at| recording.get(at)) == Some(&0);
+        let run = |length: usize| recording.windows(length).position(|readings| readings.iter().all(|&y| y == 0));
+        let between = |at: usize| found[0] < at as i64 && found.last() > Some(&(at as i64));
+        vec![
+            ("zero: the recording begins with it", is_zero(Some(0)) && !found.is_empty()),
+            ("zero: the recording ends with it", is_zero(recording.len().checked_sub(1)) && !found.is_empty()),
+            ("zero: directly before a place", found.iter().any(|&s| is_zero((s as usize).checked_sub(1)))),
+            ("zero: directly after a place", found.iter().any(|&s| is_zero(Some(s as usize + m)))),
+            ("zero: two in a row", run(2).is_some() && !found.is_empty()),
+            ("zero: m or more in a row between places", m > 1 && !found.is_empty() && run(m).is_some_and(between)),
+            ("zero: no other reading", m <= recording.len() && recording.iter().all(|&y| y == 0)),
+        ]
+    }
+
+    /// The windows that last looks at, whether it tries them or not.
+    fn looked_at_by_last(case: &Case) -> Vec<usize> {
+        let (m, n) = (case.profile.points.len(), case.recording.len());
+        let after_check = after_check(&case.profile).jump;
+        let mut looked_at = Vec::new();
+        let mut s = 0;
+        while s + m <= n {
+            looked_at.push(s);
+            s += match last_reading(&case.profile, case.recording[s + m - 1]).jump {
+                0 => after_check,
+                jump => jump,
+            };
+        }
+        looked_at
+    }
+
+    /// Where a walk meets a 0 and would go on otherwise if 0 were near the points from which it differs by at most d.
+    fn walk_situations(case: &Case) -> Vec<(&'static str, bool)> {
+        let (points, recording) = (&case.profile.points, &case.recording);
+        let (m, n) = (points.len(), recording.len());
+        let d = case.profile.delta.min(case.profile.gamma);
+        let within = |i: usize| points[i] as u32 <= d;
+        let some_within = (0..m).any(within);
+        let ends_with_zero = looked_at_by_last(case).iter().any(|s| recording[s + m - 1] == 0);
+        let tried = walk(Searcher::Maximal, &case.profile, recording);
+        let followed = || tried.iter().map(|&s| s as usize).filter(|s| s + m < n);
+        let at_zero_alone =
+            |s: usize| (0..m).all(|i| points[i].abs_diff(recording[s + i]) as u32 <= d) && recording[s..s + m].contains(&0);
+        let probed = |i: usize, probe: usize| recording[probe] == 0 && within(i) && i <= probe && probe - i + m <= n;
+        vec![
+            ("zero: last looks at it, within d of the last point", ends_with_zero && within(m - 1)),
+            ("zero: last looks at it, within d of an earlier point", ends_with_zero && some_within && !within(m - 1)),
+            ("zero: skip probes it, within d of a point", (m - 1..n).step_by(m).any(|probe| (0..m).any(|i| probed(i, probe)))),
+            ("zero: maximal reads it next, within d of a point", some_within && followed().any(|s| recording[s + m] == 0)),
+            ("zero: maximal mismatches at it alone, within d", followed().any(at_zero_alone)),
+            ("zero: maximal mismatches at it alone, all else is near", d == 255 && followed().any(at_zero_alone)),
+            // 0 differs from the point before by at most d and from this one by more, which no other reading does
+            ("zero: c from 0 would make a lone jump shorter", (1..m).any(|i| points[i] as u32 == d + 1 && within(i - 1))),
+        ]
+    }
+
+    /// Which of 2 and 3 apply, whatever comes before them: neither, 2, 3, or both.
+    fn later_refusals(case: &Case) -> [bool; 4] {
+        let bad = case.profile.delta > 255 || case.profile.gamma > 16_320;
+        let long = case.recording.len() > 1_000_000;
+        [!bad && !long, bad && !long, !bad && long, bad && long]
+    }
+
     /// Which refusal a search has, and which later ones stand behind it.
     fn refusal_situations(case: &Case) -> Vec<(&'static str, bool)> {
-        let (m, long) = (case.profile.points.len(), case.recording.len() > 1_000_000);
-        let bad = case.profile.delta > 255 || case.profile.gamma > 16_320;
-        let (alone, or_2, or_3, or_both) = (!bad && !long, bad && !long, !bad && long, bad && long);
+        let (m, zero) = (case.profile.points.len(), case.profile.points.contains(&0));
+        let (delta, gamma) = (case.profile.delta, case.profile.gamma);
+        let [alone, or_2, or_3, or_both] = later_refusals(case);
         let refusal = refusal_of_search(Searcher::Packed, &case.profile, &case.recording);
-        assert_eq!((refusal == 1, refusal == 7), (m == 0, m > 64), "{}", frames::describe(case));
+        let expected = [m == 0, m > 64, (1..=64).contains(&m) && zero];
+        assert_eq!([1, 7, 8].map(|number| refusal == number), expected, "{}", frames::describe(case));
+        let seven = refusal == 7 && !zero;
         vec![
             ("refusal 1", refusal == 1 && alone),
             ("refusal 1 before 2", refusal == 1 && or_2),
-            ("refusal 7, 65 points", refusal == 7 && m == 65 && alone),
-            ("refusal 7, more points", refusal == 7 && m > 65 && alone),
-            ("refusal 7 before 2, 65 points", refusal == 7 && m == 65 && or_2),
-            ("refusal 7 before 2, more points", refusal == 7 && m > 65 && or_2),
+            ("refusal 7, 65 points", seven && m == 65 && alone),
+            ("refusal 7, more points", seven && m > 65 && alone),
+            ("refusal 7 before 2, 65 points", seven && m == 65 && or_2),
+            ("refusal 7 before 2, more points", seven && m > 65 && or_2),
             ("refusal 2, fewer points", refusal == 2 && m < 64 && or_2),
             ("refusal 2, 64 points", refusal == 2 && m == 64 && or_2),
+            ("refusal 2, delta 256 alone", refusal == 2 && delta == 256 && gamma <= 16_320),
+            ("refusal 2, gamma 16,321 alone", refusal == 2 && delta <= 255 && gamma == 16_321),
             ("refusal 4", refusal == 4),
             ("no refusal, 64 points", refusal == 0 && m == 64),
             ("long: refusal 1 before 3", refusal == 1 && or_3),
             ("long: refusal 1 before 2 and 3", refusal == 1 && or_both),
-            ("long: refusal 7 before 3, 65 points", refusal == 7 && m == 65 && or_3),
-            ("long: refusal 7 before 2 and 3, 65 points", refusal == 7 && m == 65 && or_both),
+            ("long: refusal 7 before 3, 65 points", seven && m == 65 && or_3),
+            ("long: refusal 7 before 2 and 3, 65 points", seven && m == 65 && or_both),
             ("long: refusal 2 before 3, 64 points", refusal == 2 && m == 64 && or_both),
             ("long: refusal 3, fewer points", refusal == 3 && m < 64),
             ("long: refusal 3, 64 points", refusal == 3 && m == 64),
+        ]
+    }
+
+    /// Which points of a profile are 0, and which refusals stand before and behind 8.
+    fn refusal_8_situations(case: &Case) -> Vec<(&'static str, bool)> {
+        let m = case.profile.points.len();
+        let zeros = zeros_of(&case.profile.points);
+        let [alone, or_2, or_3, or_both] = later_refusals(case);
+        let refusal = refusal_of_profile(&case.profile);
+        let (seven, eight) = (refusal == 7 && !zeros.is_empty(), refusal == 8);
+        let wide = m as i64 * counter_width(case.profile.g()) > 64;
+        vec![
+            ("refusal 8, first point", eight && m > 1 && zeros == [0] && alone),
+            ("refusal 8, inner point", eight && one_inside(&zeros, m) && alone),
+            ("refusal 8, last point", eight && m > 1 && zeros == [m - 1] && alone),
+            ("refusal 8, all points", eight && m > 1 && zeros.len() == m && alone),
+            ("refusal 8, 1 point", eight && m == 1 && alone),
+            ("refusal 8, 64 points", eight && m == 64 && alone),
+            ("refusal 8 before 2", eight && or_2),
+            ("refusal 8 before 2, 64 points", eight && m == 64 && or_2),
+            ("refusal 8 before 4", eight && alone && wide),
+            ("refusal 7 before 8, 65 points", seven && m == 65 && alone),
+            ("refusal 7 before 8, more points", seven && m > 65 && alone),
+            ("refusal 7 before 8 and 2", seven && or_2),
+            ("long: refusal 8 before 3", eight && or_3),
+            ("long: refusal 8 before 2 and 3, 64 points", eight && m == 64 && or_both),
         ]
     }
 
@@ -646,6 +824,7 @@ mod coverage {
         vec![
             ("first: refused 1", refusal == 1),
             ("first: refused 7", refusal == 7),
+            ("first: refused 8", refusal == 8),
             ("first: refused 2", refusal == 2),
             ("first: refused 3", refusal == 3),
             ("first: at 0", place == Some(0)),
@@ -671,7 +850,7 @@ mod coverage {
             let (delta, gamma) = (case.profile.delta, case.profile.gamma);
             let accepted = refusal_of_profile(&case.profile) == 0;
             let mut meets = |situation: &'static str, yes: bool| *met.entry(situation).or_insert(0) += yes as usize;
-            for (situation, yes) in refusal_situations(&case).into_iter().chain(first_situations(&case)) {
+            for (situation, yes) in [refusal_situations(&case), refusal_8_situations(&case), first_situations(&case)].concat() {
                 meets(situation, yes);
             }
             meets("delta greatest", delta == u32::MAX);
@@ -708,7 +887,8 @@ mod coverage {
             meets("constant", n > 0 && case.recording.iter().all(|&y| y == case.recording[0]));
             meets("reading 0", case.recording.contains(&0));
             meets("reading 255", case.recording.contains(&255));
-            for (situation, yes) in block_situations(&case, &found, &near) {
+            let zeros = [spoilt_situations(&case, &found), zero_situations(&case, &found), walk_situations(&case)].concat();
+            for (situation, yes) in block_situations(&case, &found, &near).into_iter().chain(zeros) {
                 meets(situation, yes);
             }
         }
@@ -718,7 +898,7 @@ mod coverage {
             let least = match situation {
                 "first: refused 3" => 1,
                 _ if situation.starts_with("long") => 1,
-                _ if situation.starts_with("block") => 8,
+                _ if situation.starts_with("block") || situation.starts_with("zero") => 8,
                 _ => 3,
             };
             assert!(count >= least, "{situation}: {count}");
