@@ -1,5 +1,5 @@
-/* Calls every function of include/jilbaroof.h, and holds the answers to the specification: its sheet (E4, E10 to E13), its refusals and
- * its limits. */
+/* Calls every function of include/jilbaroof.h, and holds the answers to the specification: its sheet (E4, E10 to E13), its refusals, its
+ * limits, and readings of 0. */
 #include "jilbaroof.h"
 
 #include <stdio.h>
@@ -9,8 +9,59 @@ typedef jilbaroof_jump (*question)(const uint8_t *, size_t, uint32_t, uint32_t);
 
 static const uint8_t P[] = {40, 42, 44};
 static const uint8_t L[] = {40, 42, 44, 41, 43, 45, 39, 42, 43, 70, 41, 41, 43, 40};
-static const uint8_t many[1000001];
+/* the profile Q stands in the recording Y at 1, 5 and 9 with a 0, where contact was lost, and at 13 whole */
+static const uint8_t Q[] = {12, 10, 8};
+static const uint8_t Y[] = {30, 0, 10, 8, 30, 12, 0, 8, 30, 12, 10, 0, 30, 12, 11, 8, 30};
+static const uint8_t some[] = {0, 1, 0, 255};
+/* fill() makes every entry 1, but the first of zero_1 0, and so the 64th of zero_64 and the 65th of zero_65 */
+static uint8_t many[1000001], zero_1[65], zero_64[65], zero_65[65];
 static int wrong = 0;
+
+/* Calls that are refused by 1, 7, 8, 2 or 3, the first that applies in this order, also by numbers that a narrower type would cut to allowed
+ * ones or to no points. 64 points with delta 1 and gamma 2 would be refused by packed's 4 too, and 8 comes before it. */
+typedef struct {
+    uint32_t number;
+    const uint8_t *points;
+    size_t m;
+    uint32_t delta, gamma;
+    const uint8_t *recording;
+    size_t n;
+} refused;
+
+static const refused refusals[] = {
+    {1, NULL, 0, 1, 2, L, 14},
+    {1, NULL, 0, 256, 16321, many, 1000001},
+    {7, many, 65, 1, 2, L, 14},
+    {7, many, 65, 256, 16321, many, 1000001},
+    {7, many, 65536, 1, 2, L, 14},
+    {7, many, 65537, 1, 2, L, 14},
+    {7, zero_1, 65, 1, 2, L, 14},
+    {7, zero_65, 65, 256, 16321, many, 1000001},
+    {8, zero_1, 1, 1, 2, L, 14},
+    {8, zero_1, 64, 1, 2, L, 14},
+    {8, zero_64, 64, 1, 2, L, 14},
+    {8, zero_64, 64, 256, 2, L, 14},
+    {8, zero_64, 64, 1, 16321, L, 14},
+    {8, zero_64, 64, 1, 2, many, 1000001},
+    {8, zero_1, 64, 256, 16321, many, 1000001},
+    {2, P, 3, 256, 2, many, 1000001},
+    {2, P, 3, 65537, 2, L, 14},
+    {2, P, 3, 1, 16321, L, 14},
+    {2, P, 3, 1, 65538, L, 14},
+    {3, P, 3, 1, 2, many, 1000001},
+};
+static const refused *const refusals_end = refusals + sizeof refusals / sizeof *refusals;
+
+static void fill(void)
+{
+    for (size_t i = 0; i < sizeof many; i++)
+        many[i] = 1;
+    for (size_t i = 0; i < 65; i++) {
+        zero_1[i] = i != 0;
+        zero_64[i] = i != 63;
+        zero_65[i] = i != 64;
+    }
+}
 
 static void hold(const char *what, int held)
 {
@@ -47,26 +98,17 @@ static void search(const char *name, searcher ask, size_t tried)
     }
 }
 
-/* Refusals 1, 7, 2 and 3, the first that applies in this order, also by numbers that a narrower type would cut to allowed ones or to no
- * points; the list stays as it was. */
+/* Each of the refusals; the list stays as it was. */
 static void search_refused(const char *name, searcher ask)
 {
-    uint32_t list[1] = {9};
-    hold(name, is(ask(NULL, 0, 1, 2, L, 14, list, 1), 1, 0, 0));
-    hold(name, is(ask(NULL, 0, 256, 16321, many, 1000001, list, 1), 1, 0, 0));
-    hold(name, is(ask(many, 65, 1, 2, L, 14, list, 1), 7, 0, 0));
-    hold(name, is(ask(many, 65, 256, 16321, many, 1000001, list, 1), 7, 0, 0));
-    hold(name, is(ask(many, 65536, 1, 2, L, 14, list, 1), 7, 0, 0));
-    hold(name, is(ask(many, 65537, 1, 2, L, 14, list, 1), 7, 0, 0));
-    hold(name, is(ask(P, 3, 256, 2, many, 1000001, list, 1), 2, 0, 0));
-    hold(name, is(ask(P, 3, 65537, 2, L, 14, list, 1), 2, 0, 0));
-    hold(name, is(ask(P, 3, 1, 16321, L, 14, list, 1), 2, 0, 0));
-    hold(name, is(ask(P, 3, 1, 65538, L, 14, list, 1), 2, 0, 0));
-    hold(name, is(ask(P, 3, 1, 2, many, 1000001, list, 1), 3, 0, 0));
-    hold(name, list[0] == 9);
+    for (const refused *r = refusals; r < refusals_end; r++) {
+        uint32_t list[1] = {9};
+        hold(name, is(ask(r->points, r->m, r->delta, r->gamma, r->recording, r->n, list, 1), r->number, 0, 0));
+        hold(name, list[0] == 9);
+    }
 }
 
-/* What is just allowed: no reading, fewer than points, as many; 64 points; the widest tolerances; a million readings. */
+/* What is just allowed: no reading, fewer than points, as many; 64 points, also with a 0 behind them; the widest tolerances; a million readings. */
 static void search_limits(const char *name, searcher ask)
 {
     uint32_t list[1] = {9};
@@ -76,40 +118,60 @@ static void search_limits(const char *name, searcher ask)
     hold(name, is(ask(P, 3, 1, 2, L, 3, list, 1), 0, 1, 1));
     hold(name, list[0] == 0);
     hold(name, is(ask(many, 64, 0, 0, many, 64, NULL, 0), 0, 1, 1));
+    hold(name, is(ask(zero_65, 64, 0, 0, many, 64, NULL, 0), 0, 1, 1));
     jilbaroof_search all = ask(P, 3, 255, 16320, L, 14, NULL, 0);
     hold(name, all.refusal == 0 && all.total == 12);
     jilbaroof_search none = ask(P, 3, 1, 2, many, 1000000, list, 1);
     hold(name, none.refusal == 0 && none.total == 0);
 }
 
+/* A window holding a 0 is no place, within the tolerances or at the widest; with 1 in the place of each 0 it is one. */
+static void search_lost(const char *name, searcher ask, size_t tried, size_t tried_widest)
+{
+    uint32_t list[5] = {9, 9, 9, 9, 9};
+    hold(name, is(ask(Q, 3, 12, 12, Y, 17, list, 5), 0, 1, tried));
+    hold(name, list[0] == 13 && list[1] == 9);
+    hold(name, is(ask(many, 1, 255, 16320, some, 4, list, 5), 0, 2, tried_widest));
+    hold(name, list[0] == 1 && list[1] == 3 && list[2] == 9);
+    uint8_t kept[17];
+    for (size_t i = 0; i < 17; i++)
+        kept[i] = Y[i] == 0 ? 1 : Y[i];
+    jilbaroof_search whole = ask(Q, 3, 12, 12, kept, 17, list, 5);
+    hold(name, whole.refusal == 0 && whole.total == 4);
+    hold(name, list[0] == 1 && list[1] == 5 && list[2] == 9 && list[3] == 13 && list[4] == 9);
+    /* long enough for blocks of 64 windows */
+    static const uint8_t gap[200] = {[100] = 1, [101] = 1, [102] = 1};
+    for (size_t widest = 0; widest < 2; widest++) {
+        list[0] = 9;
+        jilbaroof_search one = ask(many, 3, widest ? 255 : 1, widest ? 16320 : 2, gap, 200, list, 5);
+        hold(name, one.refusal == 0 && one.total == 1);
+        hold(name, list[0] == 100 && list[1] == 5);
+    }
+}
+
 /* E4; E4 from position 1 on and E5 from 2 on, where place and count differ; a place at the last window, and none with one reading less; a
- * place and a count that 16 bits do not hold. */
+ * place and a count that 16 bits do not hold; readings of 0. */
 static void first(void)
 {
     static uint8_t late[1000000];
-    late[999997] = 9;
+    for (size_t i = 0; i < sizeof late; i++)
+        late[i] = i == 999997 ? 9 : 1;
     hold("first, E4", tells(jilbaroof_first(P, 3, 1, 2, L, 14), 0, 1, 0, 1));
     hold("first, E4 from 1", tells(jilbaroof_first(P, 3, 1, 2, L + 1, 13), 0, 1, 5, 3));
     hold("first, E5 from 2", tells(jilbaroof_first(P, 3, 1, 3, L + 2, 12), 0, 1, 1, 2));
     hold("first, last window", tells(jilbaroof_first(P, 3, 1, 2, L + 1, 8), 0, 1, 5, 3));
     hold("first, none", tells(jilbaroof_first(P, 3, 1, 2, L + 1, 7), 0, 0, 0, 2));
-    hold("first, far on", tells(jilbaroof_first((const uint8_t[]){9, 0, 0}, 3, 0, 0, late, 1000000), 0, 1, 999997, 999996));
+    hold("first, far on", tells(jilbaroof_first((const uint8_t[]){9, 1, 1}, 3, 0, 0, late, 1000000), 0, 1, 999997, 999996));
+    hold("first, lost contact", tells(jilbaroof_first(Q, 3, 12, 12, Y, 17), 0, 1, 13, 5));
+    hold("first, lost contact alone", tells(jilbaroof_first(Q, 3, 12, 12, Y, 12), 0, 0, 0, 3));
+    hold("first, lost contact, widest", tells(jilbaroof_first(many, 1, 255, 16320, some, 4), 0, 1, 1, 1));
 }
 
-/* Refusals 1, 7, 2 and 3, as the searchers have them. */
+/* The refusals, as the searchers have them. */
 static void first_refused(void)
 {
-    hold("first, 1", tells(jilbaroof_first(NULL, 0, 1, 2, L, 14), 1, 0, 0, 0));
-    hold("first, 1", tells(jilbaroof_first(NULL, 0, 256, 16321, many, 1000001), 1, 0, 0, 0));
-    hold("first, 7", tells(jilbaroof_first(many, 65, 1, 2, L, 14), 7, 0, 0, 0));
-    hold("first, 7", tells(jilbaroof_first(many, 65, 256, 16321, many, 1000001), 7, 0, 0, 0));
-    hold("first, 7", tells(jilbaroof_first(many, 65536, 1, 2, L, 14), 7, 0, 0, 0));
-    hold("first, 7", tells(jilbaroof_first(many, 65537, 1, 2, L, 14), 7, 0, 0, 0));
-    hold("first, 2", tells(jilbaroof_first(P, 3, 256, 2, many, 1000001), 2, 0, 0, 0));
-    hold("first, 2", tells(jilbaroof_first(P, 3, 65537, 2, L, 14), 2, 0, 0, 0));
-    hold("first, 2", tells(jilbaroof_first(P, 3, 1, 16321, L, 14), 2, 0, 0, 0));
-    hold("first, 2", tells(jilbaroof_first(P, 3, 1, 65538, L, 14), 2, 0, 0, 0));
-    hold("first, 3", tells(jilbaroof_first(P, 3, 1, 2, many, 1000001), 3, 0, 0, 0));
+    for (const refused *r = refusals; r < refusals_end; r++)
+        hold("first, refused", tells(jilbaroof_first(r->points, r->m, r->delta, r->gamma, r->recording, r->n), r->number, 0, 0, 0));
 }
 
 /* What is just allowed. A million readings are in first(). */
@@ -119,10 +181,11 @@ static void first_limits(void)
     hold("first, 2 readings", tells(jilbaroof_first(P, 3, 1, 2, L, 2), 0, 0, 0, 0));
     hold("first, 3 readings", tells(jilbaroof_first(P, 3, 1, 2, L, 3), 0, 1, 0, 1));
     hold("first, 64 points", tells(jilbaroof_first(many, 64, 0, 0, many, 64), 0, 1, 0, 1));
+    hold("first, a 0 behind 64 points", tells(jilbaroof_first(zero_65, 64, 0, 0, many, 64), 0, 1, 0, 1));
     hold("first, widest", tells(jilbaroof_first(P, 3, 255, 16320, L + 1, 13), 0, 1, 0, 1));
 }
 
-/* The questions as functions of the profile and the tolerances alone. Point 0 would be refused by 6, and 1, 7 and 2 come first. */
+/* The questions as functions of the profile and the tolerances alone. Point 0 would be refused by 6, and 1, 7, 8 and 2 come first. */
 static jilbaroof_jump last_reading(const uint8_t *points, size_t m, uint32_t delta, uint32_t gamma)
 {
     return jilbaroof_last_reading(points, m, delta, gamma, 44);
@@ -138,20 +201,15 @@ static jilbaroof_jump mismatch(const uint8_t *points, size_t m, uint32_t delta, 
     return jilbaroof_mismatch(points, m, delta, gamma, 0);
 }
 
+/* The refusals but 3, since a question has no recording. */
 static void question_refused(const char *name, question ask)
 {
-    hold(name, says(ask(NULL, 0, 1, 2), 1, 0));
-    hold(name, says(ask(NULL, 0, 256, 16321), 1, 0));
-    hold(name, says(ask(many, 65, 1, 2), 7, 0));
-    hold(name, says(ask(many, 65, 256, 16321), 7, 0));
-    hold(name, says(ask(many, 65536, 1, 2), 7, 0));
-    hold(name, says(ask(many, 65537, 1, 2), 7, 0));
-    /* 64 points are not too many: the next reason is mismatch's own */
+    for (const refused *r = refusals; r < refusals_end; r++)
+        if (r->number != 3)
+            hold(name, says(ask(r->points, r->m, r->delta, r->gamma), r->number, 0));
+    /* 64 points are not too many, and a 0 behind them is none of them: the next reason is mismatch's own */
     hold(name, ask(many, 64, 255, 16320).refusal == (ask == mismatch ? 6 : 0));
-    hold(name, says(ask(P, 3, 256, 2), 2, 0));
-    hold(name, says(ask(P, 3, 65537, 2), 2, 0));
-    hold(name, says(ask(P, 3, 1, 16321), 2, 0));
-    hold(name, says(ask(P, 3, 1, 65538), 2, 0));
+    hold(name, ask(zero_65, 64, 255, 16320).refusal == (ask == mismatch ? 6 : 0));
 }
 
 int main(void)
@@ -160,9 +218,11 @@ int main(void)
     static const question questions[] = {last_reading, next_reading, jilbaroof_after_check, jilbaroof_full, mismatch};
     static const char *const names[] = {"plain", "packed", "last", "skip", "maximal"};
     static const char *const asked[] = {"last_reading", "next_reading", "after_check", "full", "mismatch"};
-    static const size_t tried[] = {12, 12, 5, 6, 5};
+    static const size_t tried[] = {12, 12, 5, 6, 5}, tried_lost[] = {15, 15, 5, 9, 5}, tried_widest[] = {4, 4, 2, 2, 3};
+    fill();
     for (size_t i = 0; i < 5; i++) {
         search(names[i], searchers[i], tried[i]);
+        search_lost(names[i], searchers[i], tried_lost[i], tried_widest[i]);
         search_refused(names[i], searchers[i]);
         search_limits(names[i], searchers[i]);
         question_refused(asked[i], questions[i]);
@@ -180,12 +240,20 @@ int main(void)
     hold("last_reading 41", says(jilbaroof_last_reading(P, 3, 1, 2, 41), 0, 1));
     hold("last_reading 40", says(jilbaroof_last_reading(P, 3, 1, 2, 40), 0, 2));
     hold("last_reading 70", says(jilbaroof_last_reading(P, 3, 1, 2, 70), 0, 3));
+    hold("last_reading 0", says(jilbaroof_last_reading(P, 3, 1, 2, 0), 0, 3));
+    hold("last_reading 0, widest", says(jilbaroof_last_reading(P, 3, 255, 16320, 0), 0, 3));
+    hold("last_reading 1, widest", says(jilbaroof_last_reading(P, 3, 255, 16320, 1), 0, 0));
     hold("next_reading 44", says(jilbaroof_next_reading(P, 3, 1, 2, 44), 0, 1));
     hold("next_reading 70", says(jilbaroof_next_reading(P, 3, 1, 2, 70), 0, 4));
+    hold("next_reading 0", says(jilbaroof_next_reading(P, 3, 1, 2, 0), 0, 4));
+    hold("next_reading 0, widest", says(jilbaroof_next_reading(P, 3, 255, 16320, 0), 0, 4));
+    hold("next_reading 1, widest", says(jilbaroof_next_reading(P, 3, 255, 16320, 1), 0, 1));
     hold("after_check", says(jilbaroof_after_check((const uint8_t[]){10, 20, 20}, 3, 1, 2), 0, 1));
     hold("full", says(jilbaroof_full((const uint8_t[]){10, 20, 20}, 3, 1, 2), 0, 3));
     hold("mismatch, E12", says(jilbaroof_mismatch((const uint8_t[]){6, 5}, 2, 1, 2, 2), 0, 1));
     hold("mismatch, E13", says(jilbaroof_mismatch((const uint8_t[]){255, 254}, 2, 1, 2, 2), 0, 2));
+    /* only a 0 would be near 1 and not near 2 */
+    hold("mismatch, no reading below 1", says(jilbaroof_mismatch((const uint8_t[]){1, 2}, 2, 1, 2, 2), 0, 2));
     hold("mismatch at 0", says(jilbaroof_mismatch(P, 3, 1, 2, 0), 6, 0));
     hold("mismatch at 4", says(jilbaroof_mismatch(P, 3, 1, 2, 4), 6, 0));
     hold("mismatch at 2^32 + 1", says(jilbaroof_mismatch(P, 3, 1, 2, 4294967297), 6, 0));

@@ -1,8 +1,23 @@
-//! Calls every function of rust/jilbaroof.rs, and holds the answers to the sheet of the specification, to its refusals and to its limits.
+//! Calls every function of rust/jilbaroof.rs, and holds the answers to the sheet of the specification, to its refusals and to its limits, with
+//! readings of 0 among them.
 use jilbaroof::{First, Jump, Search, Searcher};
 
 const P: [u8; 3] = [40, 42, 44];
 const L: [u8; 14] = [40, 42, 44, 41, 43, 45, 39, 42, 43, 70, 41, 41, 43, 40];
+/// The profile Q stands in the recording Y at 1, 5 and 9 with a 0, where contact was lost, and at 13 whole.
+const Q: [u8; 3] = [12, 10, 8];
+const Y: [u8; 17] = [30, 0, 10, 8, 30, 12, 0, 8, 30, 12, 10, 0, 30, 12, 11, 8, 30];
+const SOME: [u8; 4] = [0, 1, 0, 255];
+const ZERO_1: [u8; 65] = with_zero(1);
+const ZERO_64: [u8; 65] = with_zero(64);
+const ZERO_65: [u8; 65] = with_zero(65);
+
+/// 65 points of 1, but that point number `p` is 0.
+const fn with_zero(p: usize) -> [u8; 65] {
+    let mut points = [1; 65];
+    points[p - 1] = 0;
+    points
+}
 
 /// E4 and E5 with room for all, and E4 with less and with none.
 fn search(name: &str, ask: Searcher, tried: usize) {
@@ -17,9 +32,9 @@ fn search(name: &str, ask: Searcher, tried: usize) {
     assert_eq!(ask(&P, 1, 2, &L, &mut []).total, 2, "{name}");
 }
 
-/// Refusals 1, 7, 2 and 3, the first that applies in this order, also by numbers that a narrower type would cut to allowed ones or to no
-/// points.
-fn refusals(many: &[u8]) -> [(u32, &[u8], u32, u32, &[u8]); 11] {
+/// Calls that are refused by 1, 7, 8, 2 or 3, the first that applies in this order, also by numbers that a narrower type would cut to allowed
+/// ones or to no points. 64 points with delta 1 and gamma 2 would be refused by packed's 4 too, and 8 comes before it.
+fn refusals(many: &[u8]) -> [(u32, &[u8], u32, u32, &[u8]); 20] {
     [
         (1, &P[..0], 1, 2, &L),
         (1, &P[..0], 256, 16_321, many),
@@ -27,6 +42,15 @@ fn refusals(many: &[u8]) -> [(u32, &[u8], u32, u32, &[u8]); 11] {
         (7, &many[..65], 256, 16_321, many),
         (7, &many[..65_536], 1, 2, &L),
         (7, &many[..65_537], 1, 2, &L),
+        (7, &ZERO_1, 1, 2, &L),
+        (7, &ZERO_65, 256, 16_321, many),
+        (8, &ZERO_1[..1], 1, 2, &L),
+        (8, &ZERO_1[..64], 1, 2, &L),
+        (8, &ZERO_64[..64], 1, 2, &L),
+        (8, &ZERO_64[..64], 256, 2, &L),
+        (8, &ZERO_64[..64], 1, 16_321, &L),
+        (8, &ZERO_64[..64], 1, 2, many),
+        (8, &ZERO_1[..64], 256, 16_321, many),
         (2, &P, 256, 2, many),
         (2, &P, 65_537, 2, &L),
         (2, &P, 1, 16_321, &L),
@@ -45,7 +69,7 @@ fn search_refused(name: &str, ask: Searcher, many: &[u8]) {
     }
 }
 
-/// What is just allowed: no reading, fewer than points, as many; 64 points; the widest tolerances; a million readings.
+/// What is just allowed: no reading, fewer than points, as many; 64 points, also with a 0 behind them; the widest tolerances; a million readings.
 fn search_limits(name: &str, ask: Searcher, many: &[u8]) {
     let found = |total, tried| Search { refusal: 0, total, tried };
     let mut list = [9; 1];
@@ -55,16 +79,36 @@ fn search_limits(name: &str, ask: Searcher, many: &[u8]) {
     assert_eq!(ask(&P, 1, 2, &L[..3], &mut list), found(1, 1), "{name}");
     assert_eq!(list, [0], "{name}");
     assert_eq!(ask(&many[..64], 0, 0, &many[..64], &mut []), found(1, 1), "{name}");
+    assert_eq!(ask(&ZERO_65[..64], 0, 0, &many[..64], &mut []), found(1, 1), "{name}");
     let all = ask(&P, 255, 16_320, &L, &mut []);
     assert_eq!((all.refusal, all.total), (0, 12), "{name}");
     let none = ask(&P, 1, 2, &many[..1_000_000], &mut []);
     assert_eq!((none.refusal, none.total), (0, 0), "{name}");
 }
 
+/// A window holding a 0 is no place, within the tolerances or at the widest; with 1 in the place of each 0 it is one.
+fn search_lost(name: &str, ask: Searcher, tried: usize, tried_widest: usize) {
+    let mut list = [9; 5];
+    assert_eq!(ask(&Q, 12, 12, &Y, &mut list), Search { refusal: 0, total: 1, tried }, "{name}");
+    assert_eq!(list, [13, 9, 9, 9, 9], "{name}");
+    assert_eq!(ask(&[1], 255, 16_320, &SOME, &mut list), Search { refusal: 0, total: 2, tried: tried_widest }, "{name}");
+    assert_eq!(list, [1, 3, 9, 9, 9], "{name}");
+    assert_eq!(ask(&Q, 12, 12, &Y.map(|y| y.max(1)), &mut list).total, 4, "{name}");
+    assert_eq!(list, [1, 5, 9, 13, 9], "{name}");
+    // long enough for blocks of 64 windows
+    let mut gap = [0; 200];
+    gap[100..103].fill(1);
+    for (delta, gamma) in [(1, 2), (255, 16_320)] {
+        list[0] = 9;
+        assert_eq!(ask(&[1; 3], delta, gamma, &gap, &mut list).total, 1, "{name}");
+        assert_eq!(list, [100, 5, 9, 13, 9], "{name}");
+    }
+}
+
 /// E4; E4 from position 1 on and E5 from 2 on, where place and count differ; a place at the last window, and none with one reading less; a
-/// place and a count that 16 bits do not hold.
+/// place and a count that 16 bits do not hold; readings of 0.
 fn first() {
-    let mut late = vec![0; 1_000_000];
+    let mut late = vec![1; 1_000_000];
     late[999_997] = 9;
     for (points, delta, gamma, recording, spot, tried) in [
         (&P, 1, 2, &L[..], Some(0), 1),
@@ -72,13 +116,15 @@ fn first() {
         (&P, 1, 3, &L[2..], Some(1), 2),
         (&P, 1, 2, &L[1..9], Some(5), 3),
         (&P, 1, 2, &L[1..8], None, 2),
-        (&[9, 0, 0], 0, 0, &late, Some(999_997), 999_996),
+        (&[9, 1, 1], 0, 0, &late, Some(999_997), 999_996),
+        (&Q, 12, 12, &Y, Some(13), 5),
+        (&Q, 12, 12, &Y[..12], None, 3),
     ] {
         assert_eq!(jilbaroof::first(points, delta, gamma, recording), First { refusal: 0, spot, tried });
     }
 }
 
-/// As for the searchers: refusals 1, 7, 2 and 3, and what is just allowed.
+/// As for the searchers: the refusals, and what is just allowed.
 fn first_limits(many: &[u8]) {
     for (number, points, delta, gamma, recording) in refusals(many) {
         let refused = First { refusal: number, spot: None, tried: 0 };
@@ -89,63 +135,63 @@ fn first_limits(many: &[u8]) {
     assert_eq!(jilbaroof::first(&P, 1, 2, &L[..2]), found(None, 0));
     assert_eq!(jilbaroof::first(&P, 1, 2, &L[..3]), found(Some(0), 1));
     assert_eq!(jilbaroof::first(&many[..64], 0, 0, &many[..64]), found(Some(0), 1));
+    assert_eq!(jilbaroof::first(&ZERO_65[..64], 0, 0, &many[..64]), found(Some(0), 1));
     assert_eq!(jilbaroof::first(&P, 255, 16_320, &L[1..]), found(Some(0), 1));
+    assert_eq!(jilbaroof::first(&[1], 255, 16_320, &SOME), found(Some(1), 1));
 }
 
-/// `last` is the refusal that 64 points leave to the question: none, or mismatch's own.
-fn question_refused(ask: fn(&[u8], u32, u32) -> Jump, last: u32) {
-    assert_eq!(ask(&[0; 64], 255, 16_320).refusal, last);
-    for (number, points, delta, gamma) in [
-        (1, &[][..], 1, 2),
-        (1, &[][..], 256, 16_321),
-        (7, &[0; 65][..], 1, 2),
-        (7, &[0; 65][..], 256, 16_321),
-        (7, &[0; 65_536][..], 1, 2),
-        (7, &[0; 65_537][..], 1, 2),
-        (2, &P[..], 256, 2),
-        (2, &P[..], 65_537, 2),
-        (2, &P[..], 1, 16_321),
-        (2, &P[..], 1, 65_538),
-    ] {
+/// The refusals but 3, since a question has no recording. `last` is the refusal that 64 points, also with a 0 behind them, leave to the
+/// question: none, or mismatch's own.
+fn question_refused(ask: fn(&[u8], u32, u32) -> Jump, last: u32, many: &[u8]) {
+    assert_eq!(ask(&many[..64], 255, 16_320).refusal, last);
+    assert_eq!(ask(&ZERO_65[..64], 255, 16_320).refusal, last);
+    for (number, points, delta, gamma, _) in refusals(many).into_iter().filter(|call| call.0 != 3) {
         assert_eq!(ask(points, delta, gamma), Jump { refusal: number, jump: 0 });
     }
 }
 
 fn main() {
-    let many = vec![0; 1_000_001];
-    for (name, ask, tried) in [
-        ("plain", jilbaroof::plain as Searcher, 12),
-        ("packed", jilbaroof::packed, 12),
-        ("last", jilbaroof::last, 5),
-        ("skip", jilbaroof::skip, 6),
-        ("maximal", jilbaroof::maximal, 5),
+    let many = vec![1; 1_000_001];
+    for (name, ask, tried, tried_lost, tried_widest) in [
+        ("plain", jilbaroof::plain as Searcher, 12, 15, 4),
+        ("packed", jilbaroof::packed, 12, 15, 4),
+        ("last", jilbaroof::last, 5, 5, 2),
+        ("skip", jilbaroof::skip, 6, 9, 2),
+        ("maximal", jilbaroof::maximal, 5, 5, 3),
     ] {
         search(name, ask, tried);
+        search_lost(name, ask, tried_lost, tried_widest);
         search_refused(name, ask, &many);
         search_limits(name, ask, &many);
     }
-    assert_eq!(jilbaroof::packed(&[0; 16], 1, 7, &L, &mut []).refusal, 0);
-    assert_eq!(jilbaroof::packed(&[0; 16], 1, 8, &L, &mut []), Search { refusal: 4, total: 0, tried: 0 });
-    assert_eq!(jilbaroof::packed(&[0; 16], 1, 8, &many, &mut []).refusal, 3);
+    assert_eq!(jilbaroof::packed(&[1; 16], 1, 7, &L, &mut []).refusal, 0);
+    assert_eq!(jilbaroof::packed(&[1; 16], 1, 8, &L, &mut []), Search { refusal: 4, total: 0, tried: 0 });
+    assert_eq!(jilbaroof::packed(&[1; 16], 1, 8, &many, &mut []).refusal, 3);
 
     first();
     first_limits(&many);
 
-    question_refused(|x, delta, gamma| jilbaroof::last_reading(x, delta, gamma, 44), 0);
-    question_refused(|x, delta, gamma| jilbaroof::next_reading(x, delta, gamma, 44), 0);
-    question_refused(jilbaroof::after_check, 0);
-    question_refused(jilbaroof::full, 0);
-    question_refused(|x, delta, gamma| jilbaroof::mismatch(x, delta, gamma, 0), 6);
+    question_refused(|x, delta, gamma| jilbaroof::last_reading(x, delta, gamma, 44), 0, &many);
+    question_refused(|x, delta, gamma| jilbaroof::next_reading(x, delta, gamma, 44), 0, &many);
+    question_refused(jilbaroof::after_check, 0, &many);
+    question_refused(jilbaroof::full, 0, &many);
+    question_refused(|x, delta, gamma| jilbaroof::mismatch(x, delta, gamma, 0), 6, &many);
     let jump = |jump| Jump { refusal: 0, jump };
     let refused = |refusal| Jump { refusal, jump: 0 };
-    for (a, k) in [(44, 0), (41, 1), (40, 2), (70, 3)] {
+    for (a, k) in [(44, 0), (41, 1), (40, 2), (70, 3), (0, 3)] {
         assert_eq!(jilbaroof::last_reading(&P, 1, 2, a), jump(k));
         assert_eq!(jilbaroof::next_reading(&P, 1, 2, a), jump(k + 1));
+    }
+    for (a, k) in [(0, 3), (1, 0)] {
+        assert_eq!(jilbaroof::last_reading(&P, 255, 16_320, a), jump(k));
+        assert_eq!(jilbaroof::next_reading(&P, 255, 16_320, a), jump(k + 1));
     }
     assert_eq!(jilbaroof::after_check(&[10, 20, 20], 1, 2), jump(1));
     assert_eq!(jilbaroof::full(&[10, 20, 20], 1, 2), jump(3));
     assert_eq!(jilbaroof::mismatch(&[6, 5], 1, 2, 2), jump(1));
     assert_eq!(jilbaroof::mismatch(&[255, 254], 1, 2, 2), jump(2));
+    // only a 0 would be near 1 and not near 2
+    assert_eq!(jilbaroof::mismatch(&[1, 2], 1, 2, 2), jump(2));
     assert_eq!(jilbaroof::mismatch(&P, 1, 2, 0), refused(6));
     assert_eq!(jilbaroof::mismatch(&P, 1, 2, 4), refused(6));
     assert_eq!(jilbaroof::mismatch(&P, 1, 2, (1 << 32) + 1), refused(6));
