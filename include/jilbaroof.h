@@ -1,8 +1,9 @@
 /* Jilbaroof for C: find a pressure profile in a recording, all its places or the first, and ask how far a search may jump.
  *
- * A reading is a byte. A profile is 1 to 64 readings, called points; a recording is up to 1,000,000 readings. The window at s is the
- * m readings from position s on, for a profile of m points. s is a place when every difference between a point and its reading is at
- * most delta, and the sum of the m differences at most gamma. Positions and places count from 0.
+ * A reading is a byte: a pressure from 1 to 255, or 0 where the sensor had lost contact. A profile is 1 to 64 pressures, called points; a
+ * recording is up to 1,000,000 readings. The window at s is the m readings from position s on, for a profile of m points. s is a place when
+ * every difference between a point and its reading is at most delta, the sum of the m differences at most gamma, and none of the readings
+ * is 0: a window holding a 0 is no place, whatever the tolerances. Positions and places count from 0.
  *
  * Who checks what. The library checks every value: it takes any points, any recording, any delta and gamma, any reading and any point
  * number, and answers or refuses by a number (below); nothing a caller can pass as a value makes it fail. It allocates nothing, and keeps
@@ -17,6 +18,7 @@
  * the list as it was.
  *   1  the profile has no points: usually no file was chosen
  *   7  the profile has more than 64 points, and must be cut
+ *   8  the profile holds a 0, which says that contact was lost: every point must be a pressure, 1 to 255
  *   2  delta is above 255, or gamma above 16,320
  *   3  the recording has more than 1,000,000 readings (searchers and jilbaroof_first)
  *   4  the counters do not fit one word: m times their width exceeds 64 (jilbaroof_packed). The width is 1 + b, b the least with 2^b
@@ -86,12 +88,12 @@ jilbaroof_first_place jilbaroof_first(const uint8_t *points, size_t m, uint32_t 
                                       const uint8_t *recording, size_t n);
 
 /* The five questions: how far a search may go on from a window without passing a place, given what it has seen. Near means: differs by
- * at most the smaller of delta and gamma. */
+ * at most the smaller of delta and gamma. 0 is near to no point. */
 
-/* The window's last reading is a. A jump of 0 says that this window must be tried. */
+/* The window's last reading is a. A jump of 0 says that this window must be tried. Where a is 0, the jump is m. */
 jilbaroof_jump jilbaroof_last_reading(const uint8_t *points, size_t m, uint32_t delta, uint32_t gamma, uint8_t a);
 
-/* The reading directly after a window that was tried is a. */
+/* The reading directly after a window that was tried is a. Where a is 0, the jump is m + 1. */
 jilbaroof_jump jilbaroof_next_reading(const uint8_t *points, size_t m, uint32_t delta, uint32_t gamma, uint8_t a);
 
 /* The last reading of a window that was tried is near the last point. */
@@ -101,8 +103,8 @@ jilbaroof_jump jilbaroof_after_check(const uint8_t *points, size_t m, uint32_t d
 jilbaroof_jump jilbaroof_full(const uint8_t *points, size_t m, uint32_t delta, uint32_t gamma);
 
 /* Point number p (1 to m) was not near, and all points that are compared before it were. The lone jump of point q is the least k from 1 on
- * for which there is no point q - k, or some reading is near point q - k and not near point q. Points are compared by falling lone jump,
- * and of two with the same the one of the higher number first. */
+ * for which there is no point q - k, or some reading from 1 to 255 is near point q - k and not near point q. Points are compared by falling
+ * lone jump, and of two with the same the one of the higher number first. */
 jilbaroof_jump jilbaroof_mismatch(const uint8_t *points, size_t m, uint32_t delta, uint32_t gamma, size_t p);
 
 #ifdef __cplusplus

@@ -6,9 +6,13 @@
 //! for its length, and that the lent list shares no memory with what is read. Rust's types guarantee just that, so nothing is checked
 //! here, and every function is safe for every argument. The calls below are the only `unsafe` code.
 //!
+//! A reading is a pressure from 1 to 255, or 0 where the sensor had lost contact. A window holding a 0 is no place, whatever the tolerances,
+//! and 0 is near to no point.
+//!
 //! Refusals: the first reason that applies, in this order; 0 where none does.
 //! - 1: the profile has no points: usually no file was chosen
 //! - 7: the profile has more than 64 points, and must be cut
+//! - 8: the profile holds a 0, which says that contact was lost: every point must be a pressure, 1 to 255
 //! - 2: delta is above 255, or gamma above 16,320
 //! - 3: the recording has more than 1,000,000 readings (searchers and `first`)
 //! - 4: the counters do not fit one word (`packed`)
@@ -142,13 +146,13 @@ pub fn first(points: &[u8], delta: u32, gamma: u32, recording: &[u8]) -> First {
     First { refusal: flat.refusal, spot: (flat.found == 1).then_some(flat.place), tried: flat.tried }
 }
 
-/// The last-reading jump: the window's last reading is `a`; 0 says that the window must be tried.
+/// The last-reading jump: the window's last reading is `a`; a jump of 0 says that the window must be tried. It is m where `a` is 0.
 pub fn last_reading(points: &[u8], delta: u32, gamma: u32, a: u8) -> Jump {
     // SAFETY: the slice is valid for its length and only read; so in each question below
     unsafe { boundary::jilbaroof_last_reading(points.as_ptr(), points.len(), delta, gamma, a) }
 }
 
-/// The next-reading jump: the reading directly after a tried window is `a`.
+/// The next-reading jump: the reading directly after a tried window is `a`. It is m + 1 where `a` is 0.
 pub fn next_reading(points: &[u8], delta: u32, gamma: u32, a: u8) -> Jump {
     unsafe { boundary::jilbaroof_next_reading(points.as_ptr(), points.len(), delta, gamma, a) }
 }
