@@ -1,5 +1,5 @@
 //! The two Rust programs that the searchers are measured against. They take what a searcher takes and answer the total of places.
-//! They turn nothing away: the bench passes accepted inputs only, with 1 point or more.
+//! They turn nothing away: the bench passes accepted inputs only, with 1 point or more and none of them 0.
 
 /// Tries every window, and leaves it at the first point that is not near, in the fastest form known: near is one subtraction and one
 /// comparison, the first point's numbers stay in registers, four windows a turn, and the sum is taken only where it can exceed gamma.
@@ -10,10 +10,11 @@ pub fn early_exit(points: &[u8], delta: u32, gamma: u32, recording: &[u8], list:
     }
     let d = delta.min(gamma).min(255) as u8;
     let sums = m as u32 * u32::from(d) > gamma;
-    // for each point the least near reading, and how many more are near
+    // for each point the least near reading, which is never 0, and how many more are near
     let spans: Vec<(u8, u8)> = points
         .iter()
-        .map(|x| (x.saturating_sub(d), x.saturating_add(d) - x.saturating_sub(d)))
+        .map(|x| (x.saturating_sub(d).max(1), x.saturating_add(d)))
+        .map(|(low, high)| (low, high - low))
         .collect();
     let (low, span) = spans[0];
     let rest = &spans[1..];
@@ -78,7 +79,7 @@ fn is_place(points: &[u8], delta: u32, gamma: u32, window: &[u8]) -> bool {
     let mut sum = 0;
     for (x, y) in points.iter().zip(window) {
         let difference = u32::from(x.abs_diff(*y));
-        if difference > delta {
+        if difference > delta || *y == 0 {
             return false;
         }
         sum += difference;

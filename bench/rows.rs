@@ -38,7 +38,7 @@ impl Recordings {
         for (name, recording) in [("random", &self.random), ("smooth", &self.smooth)] {
             for (delta, small) in [(5, false), (5, true), (20, false), (20, true)] {
                 for m in [8, 10, 20, 64] {
-                    // the profile is a window of the recording, so there is a place
+                    // the profile is a window of the recording, so there is a place; neither recording has a 0 there, which would be refused
                     let points = recording[READINGS / 2..READINGS / 2 + m].to_vec();
                     let gamma = if small { 2 * m as u32 } else { WIDE };
                     rows.push(Row { name, points, delta, gamma, recording });
@@ -100,7 +100,7 @@ fn random_recording() -> Vec<u8> {
     (0..READINGS).map(|_| random.next() as u8).collect()
 }
 
-/// Steps of -4 to 4, held at 0 and 255.
+/// Steps of -4 to 4, held at 0 and 255; the zeros are readings without contact, as in the random recording.
 fn smooth_recording() -> Vec<u8> {
     let mut random = Random(2);
     let mut level = 128;

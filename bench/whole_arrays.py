@@ -14,10 +14,12 @@ import numpy as np
 
 def search(points, delta, gamma, recording):
     """The places, in rising order. This is the fastest of the plain forms that were tried: 16-bit numbers, and the greatest difference of each
-    window rather than a truth value for it, since NumPy combines those more slowly."""
+    window rather than a truth value for it, since NumPy combines those more slowly. A 0 fits nothing, so each is made a reading that no delta
+    reaches, once for all windows."""
     windows = len(recording) + 1 - len(points)
-    # 64 differences of at most 255 stay below 2^15
+    # 512 is 257 or more from every point, and 64 differences of at most 511 stay below 2^15
     readings = recording.astype(np.int16)
+    readings[recording == 0] = 512
     greatest = np.zeros(windows, dtype=np.int16)
     total = np.zeros(windows, dtype=np.int16)
     for i, point in enumerate(points.astype(np.int16)):
