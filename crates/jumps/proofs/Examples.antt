@@ -1,12 +1,13 @@
 -- Edges of the rules, by computation: what an edit of a definition is refused by. The sheet's own examples stand in crate sheet. Assumes nothing.
 use Prim.Native.Nat.{ℕ}
-use mathlib.Core.Bool.{true}
-use mathlib.Core.Path.{_≡_, refl}
+use mathlib.Core.Bool.{true, true≢false}
+use mathlib.Core.Path.{_≡_, refl, sym}
 use mathlib.Core.List.{List, [], _∷_}
 use Rattle.fit.specs.Reading.{near, alike}
 use Rattle.fit.specs.Place.{fitOf}
 use Rattle.jumps.specs.Least.{greatest, least, allBelow, someBelow}
 use Rattle.jumps.specs.Jumps.{lastJump, nextJump, afterJump, lonely, loneAt, loneJump, earlier, mismatchJump, fullAt, fullJump}
+use Rattle.jumps.specs.Demand.{MismatchedAt}
 
 abbrev two : List ℕ
 two = 10 ∷ 20 ∷ []
@@ -38,6 +39,11 @@ full-edges = (refl, refl)
 pub mismatch-edges : (mismatchJump 1 (8 ∷ 7 ∷ []) 1 ≡ 1) × (mismatchJump 1 (1 ∷ 2 ∷ []) 1 ≡ 2)
 unfolding mismatchJump near
 mismatch-edges = (refl, refl)
+
+-- a 0 is evidence of a mismatch with the last point, though it differs from it by no more than d
+pub zero-evidence : MismatchedAt 9 (1 ∷ 2 ∷ []) 1 1 0
+unfolding earlier near
+zero-evidence = record { earlier-near = λ h. absurd (true≢false (sym h)); itself-far = λ e. refl }
 
 -- c = 255 counts
 pub lonely-at-255 : lonely 0 255 254 ≡ true
