@@ -26,14 +26,16 @@ pub fn are_alike(k: u32, p: u8, q: u8) -> bool
     differ(p, q) <= k
 }
 
-// Whether reading a is near point p, as 0 is to none.
+// Whether reading a is near point p; 0 is near to none.
 pub fn is_near(d: u32, p: u8, a: u8) -> bool
     ensures { λ r. ⌜ r ≡ near d p a ⌝ }
 {
     if (a as u32) < LOWEST {
         return false;
     }
-    differ(p, a) <= d
+    // one comparison for both sides: below p - d, a + d - p wraps, and is far above 2d
+    let reach = d as u64;
+    std::num::wrapping_sub_u64(a as u64 + reach, p as u64) <= 2 * reach
 }
 
 // The least reading that is near point p.
