@@ -81,8 +81,8 @@ const ORDINARY: [Kind; 15] = [
 const ZEROS: [Kind; 3] = [zeros_within_tolerance, zeros_alone_decide, contact_lost];
 const REFUSED: [Kind; 3] = [refused, refused, zero_in_the_profile];
 
-/// One case in so many is long: refused, for its length or before that, or as long as is accepted. No kind always gives way to it, since
-/// the number of kinds does not divide this one.
+/// One case in so many is long: refused, for its length or before that, or as long as is accepted. It is not always the same kind that gives way
+/// to it, since the number of kinds does not divide this one.
 const LONG_EVERY: usize = 199;
 
 pub fn cases(count: usize, seed: u64) -> impl Iterator<Item = Case> {

@@ -78,13 +78,13 @@ questionRefusal delta gamma x = firstReason (questionReasons delta gamma x)
 unfoldable pub searchRefusal : ℕ → ℕ → List ℕ → List ℕ → ℕ
 searchRefusal delta gamma x y = firstReason (searchReasons delta gamma x y)
 
--- ---- the reasons, as facts: a point of the profile is 0
+-- ---- the reasons, as facts. Of a profile: one of its points is 0
 pub record HoldsZero (x : List ℕ) : Type 0 where
   pub at : ℕ
   pub inside : at < length x
   pub zero-there : getD x at 0 ≡ 0
 
--- of the profile one of three
+-- it is empty, or too long, or holds a 0
 abbrev pub BadProfile : List ℕ → Type 0
 BadProfile x = (length x ≡ 0) ⊎ ((maxPoints < length x) ⊎ HoldsZero x)
 

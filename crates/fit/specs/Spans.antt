@@ -24,7 +24,7 @@ ruleIn spans = record {
   cost = λ i a. spanCost (getD spans (4 * i + 2) 0) (getD spans (4 * i + 3) 0) a;
 }
 
--- the numbers of an ordinary point p: the readings from p - delta to p + delta suit it, and p itself costs nothing
+-- the numbers of an ordinary point p: the readings from p - delta, or from the lowest, to p + delta suit it, and p itself costs nothing
 abbrev pub spanOf : ℕ → ℕ → List ℕ
 spanOf delta p = max lowest (p - delta) ∷ (p + delta) ∷ p ∷ p ∷ []
 

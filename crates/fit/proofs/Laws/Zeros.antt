@@ -30,7 +30,7 @@ zero-found (p ∷ x) e =
 pub holds-exactly : (x : List ℕ) → (holdsZero x ≡ true) ↔ HoldsZero x
 holds-exactly x = (zero-found x, λ z. zero-at x (z .at) (z .zero-there) (z .inside))
 
--- the loop: none of the first i points is 0; of all
+-- at the end of a loop: none of the first i points is 0, and these are all
 pub none-zero : (x : List ℕ) (i : ℕ) → ((j : ℕ) → j < i → getD x j 0 ≡ 0 → ⊥) → length x ≤ i → holdsZero x ≡ false
 none-zero x i none h = is-false (holdsZero x) (λ e. let z = zero-found x e in none (z .at) (omega (arith, z .inside)) (z .zero-there))
 
