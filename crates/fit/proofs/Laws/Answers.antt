@@ -15,7 +15,7 @@ use Rattle.fit.specs.declared.limits.Checked.{Checked}
 use Rattle.fit.specs.declared.answer.Search.{Search}
 use Rattle.fit.proofs.Laws.Listings.{up-short}
 use Rattle.fit.proofs.Laws.Rules.{same-place}
-use Rattle.fit.proofs.Laws.Refusals.{none-exactly}
+use Rattle.fit.proofs.Laws.Refusals.{never-four, none-exactly}
 
 -- ---- a search that has begun
 pub begun-number : (num : ℕ) {r : Search} → r ≡ begun num → r .refusal ≡ num
@@ -84,6 +84,16 @@ unfolding outcome
 number-of zero t tried = refl
 number-of (suc num) t tried = refl
 
+-- an answer has the number that it is refused by, or 0
+pub answer-number : (num : ℕ) (t : Sought) (tried : ℕ) (entry : Lent) (r : Search) (final : Lent) → Answer num t tried entry r final → r .refusal ≡ num
+answer-number num t tried entry r final a = ap (λ (q : Search). q .refusal) (a .result) ∙ number-of num t tried
+
+-- #104: of 4 "it is shown that it never occurs", in no answer of a search
+pub four-never-occurs : (delta gamma : ℕ) (x y : List ℕ) (tried : ℕ) (entry : Lent) (r : Search) (final : Lent)
+    → Answers delta gamma x y tried entry r final → r .refusal ≡ 4 → ⊥
+four-never-occurs delta gamma x y tried entry r final a e =
+    never-four delta gamma x y (sym (answer-number (searchRefusal delta gamma x y) (soughtOf delta gamma x y) tried entry r final a) ∙ e)
+
 pub record Done (t : Sought) (tried : ℕ) (entry : Lent) (r : Search) (final : Lent) : Type 0 where
   pub total : r .total ≡ length (all t)
   pub windows : r .tried ≡ tried
@@ -92,7 +102,7 @@ pub record Done (t : Sought) (tried : ℕ) (entry : Lent) (r : Search) (final : 
 pub answer-done : (num : ℕ) (t : Sought) (tried : ℕ) (entry : Lent) (r : Search) (final : Lent) → Answer num t tried entry r final → r .refusal ≡ 0 → Done t tried entry r final
 unfolding outcome filled
 answer-done num t tried entry r final a z =
-    let none : num ≡ 0 = sym (number-of num t tried) ∙ sym (ap (λ (q : Search). q .refusal) (a .result)) ∙ z in
+    let none : num ≡ 0 = sym (answer-number num t tried entry r final a) ∙ z in
     let result : r ≡ outcome 0 t tried = rw none at (a .result) in
     let lists : final ≡ filled 0 t entry = rw none at (a .lists) in
     record {

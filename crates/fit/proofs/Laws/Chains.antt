@@ -50,7 +50,7 @@ module _ (num : ℕ) (reason : Reason) (later : List Reason) (other : has num (r
   not-later = has-neither (eqb num (reason .number)) (has num later) other .1
 
 -- a number that no reason has is not given
-absent : (num : ℕ) (chain : List Reason) → 1 ≤ num → has num chain ≡ false → firstReason chain ≡ num → ⊥
+pub absent : (num : ℕ) (chain : List Reason) → 1 ≤ num → has num chain ≡ false → firstReason chain ≡ num → ⊥
 absent num [] some other e = omega arith
 absent num (reason ∷ later) some other e =
     ⊎-elim (λ h. other-number num reason later other (h .1)) (λ h. absent num later some (not-later num reason later other) (h .1))

@@ -12,7 +12,7 @@ use borrow.Author.Tests.{eqb-true, ltb-true, eq-eqb, lt-ltb}
 use Rattle.fit.specs.Chain.{NoneApplies, FirstInOrder}
 use Rattle.fit.specs.Refusal.{maxPoints, maxDelta, maxGamma, maxReadings, noPoints, manyPoints, zeroPoint, wideTolerance, manyReadings, profileReasons, questionReasons, searchReasons, orElse, ofProfile, ofTolerance, ofRecording, questionRefusal, searchRefusal, holdsZero, HoldsZero, BadProfile, BadTolerance, BadRecording, Asked, Accepted}
 use Rattle.fit.proofs.Laws.Bools.{or-cases, or-left, or-right, not-both, at-most}
-use Rattle.fit.proofs.Laws.Chains.{has, behind, ahead, first-exactly, zero-exactly, in-order, given-small, joined, none-both, one-spared, more-spared}
+use Rattle.fit.proofs.Laws.Chains.{has, absent, behind, ahead, first-exactly, zero-exactly, in-order, given-small, joined, none-both, one-spared, more-spared}
 use Rattle.fit.proofs.Laws.Zeros.{holds-exactly, real-exactly}
 
 -- ---- the tests, as facts
@@ -235,6 +235,11 @@ module _ (delta gamma : ℕ) (x y : List ℕ) where
   pub search-small : searchRefusal delta gamma x y ≤ 99
   unfolding searchRefusal
   search-small = given-small 99 (searchReasons delta gamma x y) refl
+
+  -- No. 4, which packed gave until #104: "4 is no longer given"
+  pub never-four : searchRefusal delta gamma x y ≡ 4 → ⊥
+  unfolding searchRefusal
+  never-four = absent 4 (searchReasons delta gamma x y) (omega arith) refl
 
   -- as code has it
   pub search-joined : searchRefusal delta gamma x y ≡ orElse (questionRefusal delta gamma x) (ofRecording y)
