@@ -3,5 +3,8 @@ pub mod Fields
 pub mod Laying
 pub mod Growth
 pub mod Ends
+pub mod Counts
+pub mod Across
+pub mod Handing
 pub mod Steps
 pub mod Firm

@@ -2,4 +2,5 @@
 pub mod Width
 pub mod Word
 pub mod Sums
+pub mod Words
 pub mod Sound

@@ -1,16 +1,20 @@
-// Counters side by side in a word of 64 bits, and the masks that step them: what the packed searcher is built of.
-// A counter has b low bits and a top bit above them, and counter 0 stands lowest. Nothing here knows of readings or profiles.
+// Counters side by side in words of 64 bits, and the masks that step them: what the packed searcher is built of.
+// A counter has b low bits and a top bit above them. Counter 0 stands lowest in the first word, and no counter stands in two words. Nothing
+// here knows of readings or profiles.
 ghost use mathlib.Core.Path.{_≡_};
 ghost use Prim.Native.Nat.{suc, _*_, _<_, _≤_, _^_};
+ghost use lib.ListN.{length};
 ghost use Rattle.counters.specs.Width.{lowBits};
 ghost use Rattle.counters.specs.Word.{wordBits, Laid};
 ghost use Rattle.counters.specs.Sums.{Small, Turned};
+ghost use Rattle.counters.specs.Words.{Whole, SmallAcross, TurnedAcross};
 ghost use Rattle.counters.specs.Sound.{Sound, LaidOut};
 
-// m counters with b low bits each, for sums up to g: the low bits and the top bit of every counter, and a counter at the sum 0.
+// A word of `per` counters with b low bits each, for sums up to g: the low bits and the top bit of every counter, and a counter at the
+// sum 0. The masks are the same for every word.
 pub struct Masks {
     pub b: u32,
-    pub m: u32,
+    pub per: u32,
     pub g: u64,
     pub low: u64,
     pub top: u64,
@@ -42,17 +46,17 @@ fn alike(l: u32, m: u32, v: u64) -> u64
     w
 }
 
-// The masks of m counters for sums up to g.
-pub fn lay_out(b: u32, m: u32, g: u64) -> Masks
-    requires { ⌜ (1 ≤ m) × (b < 63) × (suc b * m ≤ wordBits) × (g < 2 ^ b) ⌝ }
-    ensures { λ r. ⌜ LaidOut b m g r ⌝ }
+// The masks of `per` counters to a word for sums up to g.
+pub fn lay_out(b: u32, per: u32, g: u64) -> Masks
+    requires { ⌜ (1 ≤ per) × (b < 63) × (suc b * per ≤ wordBits) × (g < 2 ^ b) ⌝ }
+    ensures { λ r. ⌜ LaidOut b per g r ⌝ }
 {
     let half = 1u64 << b;
-    let low = alike(b + 1, m, half - 1);
-    let top = alike(b + 1, m, half);
+    let low = alike(b + 1, per, half - 1);
+    let top = alike(b + 1, per, half);
     Masks {
         b,
-        m,
+        per,
         g,
         low,
         top,
@@ -60,12 +64,32 @@ pub fn lay_out(b: u32, m: u32, g: u64) -> Masks
     }
 }
 
-// One reading: every counter moves one up, `carry` enters at the first, and the counters of `add` are added.
+// One reading over one word: every counter moves one up, `enters` comes in at the first, and the counters of `add` are added.
 // `d & k.low` takes the top bits out, so that no counter carries into its neighbour, and cuts off what left the last counter.
-pub fn step(k: Masks, word: u64, carry: u64, add: u64) -> u64
-    requires { ⌜ Sound k × (carry < 2 ^ suc (k .b)) × Small (k .b) (k .g) (k .m) add ⌝ }
-    ensures { λ r. ⌜ Turned (k .b) (k .g) (k .m) word carry add r ⌝ }
+fn step(k: Masks, word: u64, enters: u64, add: u64) -> u64
+    requires { ⌜ Sound k × (enters < 2 ^ suc (k .b)) × Small (k .b) (k .g) (k .per) add ⌝ }
+    ensures { λ r. ⌜ Turned (k .b) (k .g) (k .per) word enters add r ⌝ }
 {
-    let d = (word << (k.b + 1)) | carry;
+    let d = (word << (k.b + 1)) | enters;
     ((d & k.low) + add) | (d & k.top)
+}
+
+// One reading over all words, as if they were one: `first` comes in at the first word, and what leaves a word at its top comes in at the next.
+pub fn step_words(k: Masks, words: &mut [u64], first: u64, adds: &[u64])
+    requires { ⌜ Sound k × (first < 2 ^ suc (k .b)) × Whole (suc (k .b)) (k .per) (now words)
+        × SmallAcross (k .b) (k .g) (k .per) (length (now words)) (now adds) ⌝ }
+    ensures { λ _. ⌜ TurnedAcross (k .b) (k .g) (k .per) (now (words .entry)) first (now (adds .entry)) (now (words .exit)) ⌝ }
+{
+    let above = (k.b + 1) * (k.per - 1);
+    let used = words.len();
+    let mut enters = first;
+    let mut j: usize = 0;
+    while j < used {
+        let word = words[j];
+        // taken before the word is written, so that the compiler does several words at once
+        let leaves = word >> above;
+        words[j] = step(k, word, enters, adds[j]);
+        enters = leaves;
+        j += 1;
+    }
 }

@@ -9,7 +9,6 @@ ghost use lib.ListN.{length};
 ghost use Rattle.fit.specs.Place.{fitOf, dOf, windows};
 ghost use Rattle.fit.specs.Refusal.{questionRefusal, searchRefusal};
 ghost use Rattle.fit.specs.Answer.{soughtOf, lent, Answers};
-ghost use Rattle.packed.specs.Fourth.{PackedAnswers};
 ghost use Rattle.last.specs.Walk.{lastWalkOf};
 ghost use Rattle.first.specs.First.{firstAnswer};
 ghost use Rattle.skip.specs.Walk.{skipWalk};
@@ -34,7 +33,7 @@ pub extern "C" fn jilbaroof_plain(
     plain::search(points, delta, gamma, recording, list)
 }
 
-// packed: a counter for each point, side by side in one word; refusal 4 where they do not fit.
+// packed: a counter for each point, side by side in as many words as needed.
 #[no_mangle]
 pub extern "C" fn jilbaroof_packed(
     points: &[u8],
@@ -44,8 +43,9 @@ pub extern "C" fn jilbaroof_packed(
     list: &mut [u32],
 ) -> Search
     ensures { λ r. ⌜
-        PackedAnswers delta gamma (now (points .entry)) (now (recording .entry)) (lent (now (list .entry))) r
-        (lent (now (list .exit))) ⌝ }
+        Answers delta gamma (now (points .entry)) (now (recording .entry))
+        (windows (length (now (points .entry))) (length (now (recording .entry))))
+        (lent (now (list .entry))) r (lent (now (list .exit))) ⌝ }
 {
     packed::search(points, delta, gamma, recording, list)
 }

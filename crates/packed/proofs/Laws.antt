@@ -1,6 +1,4 @@
-pub mod Costing
-pub mod Filling
 pub mod Following
 pub mod Scanning
-pub mod Refusing
+pub mod Serving
 pub mod Answering

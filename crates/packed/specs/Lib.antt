@@ -1,5 +1,4 @@
--- Read in this order: it goes as document 01's paragraph 'packed' goes.
-pub mod Adding
+-- Read in this order: it goes as document 01's paragraph 'packed' goes. What a reading adds stands in `adding`.
 pub mod Separate
-pub mod Tables
-pub mod Fourth
+pub mod Following
+pub mod Needs

@@ -1,15 +1,21 @@
-// The packed searcher: a counter for each point, side by side in one word, stepped once for each reading.
-// What a place is stands in fit, what a counter is in counters; here are the additions of each reading and the scan.
+// The packed searcher: a counter for each point, side by side in as many words as needed, stepped once for each reading.
+// What a place is stands in fit, what a counter is in counters, and what each reading adds in adding; here is the scan.
 mod scan;
-mod table;
 
-ghost use Rattle.fit.specs.Answer.{lent};
-ghost use Rattle.packed.specs.Fourth.{PackedAnswers};
+ghost use lib.ListN.{length};
+ghost use Rattle.fit.specs.Place.{windows};
+ghost use Rattle.fit.specs.Answer.{lent, Answers};
 
 // The bits of a word.
 const WORD_BITS: u32 = 64;
 
-// All places of the profile in the recording.
+// The most words that the counters take: 64 counters of 15 bits, four to a word.
+const MAX_WORDS: usize = 16;
+
+// Room for as many words for each reading.
+const TABLE_WORDS: usize = 256 * MAX_WORDS;
+
+// Lists the places of the profile in the recording, and counts them and the windows.
 pub fn search(
     points: &[u8],
     delta: u32,
@@ -18,24 +24,24 @@ pub fn search(
     list: &mut [u32],
 ) -> fit::Search
     ensures { λ r. ⌜
-        PackedAnswers delta gamma (now (points .entry)) (now (recording .entry)) (lent (now (list .entry))) r
-        (lent (now (list .exit))) ⌝ }
+        Answers delta gamma (now (points .entry)) (now (recording .entry))
+        (windows (length (now (points .entry))) (length (now (recording .entry))))
+        (lent (now (list .entry))) r (lent (now (list .exit))) ⌝ }
 {
     let checked = fit::checked_search(points, delta, gamma, recording);
-    let mut begun = fit::begin(checked.refusal);
+    let begun = fit::begin(checked.refusal);
     if begun.refusal != 0 {
         return begun;
     }
-    let m = points.len() as u32;
+    let m = points.len();
     let tolerance = checked.tolerance;
     let d = tolerance.d();
-    let g = tolerance.g(m);
+    let g = tolerance.g(m as u32);
     let b = counters::low_bits(g);
-    if WORD_BITS < m * (b + 1) {
-        begun.refusal = 4;
-        return begun;
-    }
-    let k = counters::lay_out(b, m, g as u64);
-    let table = table::additions(points, b + 1, d, g as u64);
-    scan::scan(k, &table, recording, list, begun)
+    let k = counters::lay_out(b, WORD_BITS / (b + 1), g as u64);
+    let per = k.per as usize;
+    let used = (m + (per - 1)) / per;
+    let mut table = [0u64; TABLE_WORDS];
+    adding::additions(points, per, used, b + 1, d, g as u64, &mut table);
+    scan::scan(k, m, used, &table, recording, list, begun)
 }

@@ -2,61 +2,134 @@
 use counters::Masks;
 use fit::Search;
 ghost use mathlib.Core.Path.{_≡_};
-ghost use Prim.Native.Nat.{_≤_};
-ghost use lib.ListN.{length, getD};
+ghost use Prim.Native.Nat.{suc, _+_, _-_, _*_, _%_, _^_, _≤_};
+ghost use lib.ListN.{length, replicate};
 ghost use Rattle.fit.specs.Place.{windows};
-ghost use Rattle.fit.specs.Refusal.{maxReadings};
-ghost use Rattle.fit.specs.Answer.{lent, begun, Answer};
-ghost use Rattle.counters.specs.Sums.{Turned};
+ghost use Rattle.fit.specs.Answer.{lent, begun};
+ghost use Rattle.counters.specs.Words.{Whole, TurnedAcross};
 ghost use Rattle.counters.specs.Sound.{Sound};
-ghost use Rattle.packed.specs.Tables.{Addable, Follows, soughtIn};
+ghost use Rattle.adding.specs.Tables.{rowOf};
+ghost use Rattle.packed.specs.Following.{Addable, Scannable, Follows, Scans};
+ghost use Rattle.packed.specs.Needs.{maxWords};
 
-// The word after reading a: a counter enters at point 1, and the table's word is added.
-fn read_one(k: Masks, table: &[u64; 256], word: u64, a: u8) -> u64
-    requires { ⌜ Sound k × Addable (k .b) (k .g) (k .m) (now table) ⌝ }
-    ensures { λ r. ⌜ Turned (k .b) (k .g) (k .m) word (k .enter) (getD (now (table .entry)) a 0) r ⌝ }
+// The words after reading a: a counter enters at point 1, and the table's words are added.
+fn read_one(k: Masks, table: &[u64], words: &mut [u64], a: u8)
+    requires { ⌜ Sound k × Addable (k .b) (k .g) (k .per) (length (now words)) (now table) × Whole (suc (k .b)) (k .per) (now words) ⌝ }
+    ensures { λ _. ⌜
+        TurnedAcross (k .b) (k .g) (k .per) (now (words .entry)) (k .enter)
+        (rowOf (length (now (words .entry))) (now (table .entry)) a) (now (words .exit)) ⌝ }
 {
-    counters::step(k, word, k.enter, table[a as usize])
+    let used = words.len();
+    let from = reading::index(a) * used;
+    let to = from + used;
+    counters::step_words(k, words, k.enter, &table[from..to]);
 }
 
-// The word after the first `lead` readings. Before them all counters are above g.
-fn read_lead(k: Masks, table: &[u64; 256], recording: &[u8], lead: usize) -> u64
-    requires { ⌜ Sound k × Addable (k .b) (k .g) (k .m) (now table) × (lead ≤ length (now recording)) ⌝ }
-    ensures { λ r. ⌜ Follows k (now (table .entry)) (now (recording .entry)) r lead ⌝ }
+// Reads the readings that end no window, so that none of them is asked for one, and answers how many they are. Before them all counters are
+// above g.
+fn read_lead(k: Masks, m: usize, table: &[u64], words: &mut [u64], recording: &[u8]) -> usize
+    requires { ⌜ Scannable k m (length (now words)) (now table) (now recording)
+        × (now words ≡ replicate (length (now words)) (k .top)) ⌝ }
+    ensures { λ lead. ⌜ (lead ≡ length (now (recording .entry)) - windows m (length (now (recording .entry))))
+        × Follows k (length (now (words .entry))) (now (table .entry)) (now (recording .entry)) (now (words .exit)) lead ⌝ }
 {
-    let mut word = k.top;
+    let lead = recording.len() - window::count_windows(m, recording);
     let mut j = 0;
     while j < lead {
-        word = read_one(k, table, word, recording[j]);
+        read_one(k, table, words, recording[j]);
         j += 1;
     }
-    word
+    lead
 }
 
-// Reads the recording once, and tries the window that ends at each reading: it is a place where the last top bit is clear.
-// The readings before the end of the first window are read first, so that none of them is asked for a window.
-pub(crate) fn scan(
+// The top bit of the last point's counter, in its word.
+fn last_bit(k: Masks, m: usize) -> u64
+    requires { ⌜ Sound k × (1 ≤ m) ⌝ }
+    ensures { λ r. ⌜ r ≡ 2 ^ (suc (k .b) * ((m - 1) % k .per) + k .b) ⌝ }
+{
+    let at = ((m - 1) % (k.per as usize)) as u32;
+    1u64 << ((k.b + 1) * at + k.b)
+}
+
+// Reads the readings behind the lead, and tries the window that ends at each: it is a place where the top bit of the last point's counter is
+// clear. That counter stands in the last word.
+fn read_windows(
     k: Masks,
-    table: &[u64; 256],
+    m: usize,
+    table: &[u64],
+    words: &mut [u64],
+    lead: usize,
     recording: &[u8],
     list: &mut [u32],
     before: Search,
 ) -> Search
-    requires { ⌜ Sound k × Addable (k .b) (k .g) (k .m) (now table) × (length (now recording) ≤ maxReadings) × (before ≡ begun 0) ⌝ }
+    requires { ⌜ Scannable k m (length (now words)) (now table) (now recording) × (before ≡ begun 0) ⌝ }
+    requires { ⌜ (lead ≡ length (now recording) - windows m (length (now recording)))
+        × Follows k (length (now words)) (now table) (now recording) (now words) lead ⌝ }
     ensures { λ r. ⌜
-        Answer 0 (soughtIn k (now (table .entry)) (now (recording .entry))) (windows (k .m) (length (now (recording .entry))))
+        Scans k m (length (now (words .entry))) (now (table .entry)) (now (recording .entry))
         (lent (now (list .entry))) r (lent (now (list .exit))) ⌝ }
 {
-    let count = window::count_windows(k.m as usize, recording);
-    let lead = recording.len() - count;
-    let last = 1u64 << ((k.b + 1) * k.m - 1);
-    let mut word = read_lead(k, table, recording, lead);
+    let last = words.len() - 1;
+    let bit = last_bit(k, m);
+    let count = recording.len() - lead;
     let mut found = before;
     let mut s = 0;
     while s < count {
-        word = read_one(k, table, word, recording[lead + s]);
-        found = window::note(list, s, word < last, found);
+        read_one(k, table, words, recording[lead + s]);
+        let word = words[last];
+        found = window::note(list, s, word & bit == 0, found);
         s += 1;
     }
     found
+}
+
+// Reads the recording once, with the counters in so many words. Up to four stand in an array of just that length: where the number of words is a
+// constant the compiler keeps them in registers. More are the front of an array that serves any number.
+pub(crate) fn scan(
+    k: Masks,
+    m: usize,
+    used: usize,
+    table: &[u64],
+    recording: &[u8],
+    list: &mut [u32],
+    before: Search,
+) -> Search
+    requires { ⌜ Scannable k m used (now table) (now recording) × (used ≤ maxWords) × (before ≡ begun 0) ⌝ }
+    ensures { λ r. ⌜
+        Scans k m used (now (table .entry)) (now (recording .entry)) (lent (now (list .entry))) r (lent (now (list .exit))) ⌝ }
+{
+    let top = k.top;
+    if used == 1 {
+        let mut words = [top; 1];
+        let lead = read_lead(k, m, table, &mut words, recording);
+        return read_windows(k, m, table, &mut words, lead, recording, list, before);
+    }
+    if used == 2 {
+        let mut words = [top; 2];
+        let lead = read_lead(k, m, table, &mut words, recording);
+        return read_windows(k, m, table, &mut words, lead, recording, list, before);
+    }
+    if used == 3 {
+        let mut words = [top; 3];
+        let lead = read_lead(k, m, table, &mut words, recording);
+        return read_windows(k, m, table, &mut words, lead, recording, list, before);
+    }
+    if used == 4 {
+        let mut words = [top; 4];
+        let lead = read_lead(k, m, table, &mut words, recording);
+        return read_windows(k, m, table, &mut words, lead, recording, list, before);
+    }
+    let mut words = [top; crate::MAX_WORDS];
+    let lead = read_lead(k, m, table, &mut words[0..used], recording);
+    read_windows(
+        k,
+        m,
+        table,
+        &mut words[0..used],
+        lead,
+        recording,
+        list,
+        before,
+    )
 }

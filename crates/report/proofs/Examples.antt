@@ -9,8 +9,6 @@ use Rattle.fit.specs.Listing.{upTo, places}
 use Rattle.fit.specs.Walk.{walkBy, walk}
 use Rattle.fit.specs.Refusal.{searchRefusal}
 use Rattle.fit.specs.Answer.{outcome}
-use Rattle.counters.specs.Width.{leastFrom, lowBits}
-use Rattle.packed.specs.Fourth.{packedRefusal}
 use Rattle.jumps.specs.Least.{greatest, least, allBelow, someBelow}
 use Rattle.jumps.specs.Jumps.{lonely, loneAt, loneJump, earlier, agreesAt, mismatchAt, mismatchJump, fullAt, fullJump}
 use Rattle.comparing.specs.Order.{withLone, falling}
@@ -32,5 +30,5 @@ sevenLines =
     ++ skipName ++ (32 ∷ 50 ∷ 32 ∷ 54 ∷ 10 ∷ []) ++ maximalName ++ (32 ∷ 50 ∷ 32 ∷ 53 ∷ 10 ∷ []) ++ (48 ∷ 10 ∷ 54 ∷ 10 ∷ [])
 
 pub e4-report : reportOf e4 ≡ sevenLines
-unfolding alike near allFit sumCost isPlaceBy isPlace upTo places walkBy walk searchRefusal outcome leastFrom lowBits packedRefusal greatest least allBelow someBelow lonely loneAt loneJump earlier agreesAt mismatchAt mismatchJump fullAt fullJump withLone falling lastTries lastNext probed probes skipWalk comparedJump maximalNext ofInput pointsBy recordingBy countFrom decimal lineBy linesOf foundBy reportBy
+unfolding alike near allFit sumCost isPlaceBy isPlace upTo places walkBy walk searchRefusal outcome greatest least allBelow someBelow lonely loneAt loneJump earlier agreesAt mismatchAt mismatchJump fullAt fullJump withLone falling lastTries lastNext probed probes skipWalk comparedJump maximalNext ofInput pointsBy recordingBy countFrom decimal lineBy linesOf foundBy reportBy
 e4-report = refl

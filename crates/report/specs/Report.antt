@@ -6,7 +6,6 @@ use Rattle.fit.specs.Place.{fitOf, dOf, windows}
 use Rattle.fit.specs.Refusal.{searchRefusal}
 use Rattle.fit.specs.Listing.{places}
 use Rattle.fit.specs.Answer.{soughtOf, outcome}
-use Rattle.packed.specs.Fourth.{packedRefusal}
 use Rattle.last.specs.Walk.{lastWalkOf}
 use Rattle.skip.specs.Walk.{skipWalk}
 use Rattle.maximal.specs.Walk.{maximalWalk}
@@ -47,7 +46,7 @@ module _ (delta gamma : ℕ) (x y : List ℕ) where
   plainLine = lineFor plainName (searchRefusal delta gamma x y) (windows (length x) (length y))
 
   abbrev pub packedLine : List ℕ
-  packedLine = lineFor packedName (packedRefusal delta gamma x y) (windows (length x) (length y))
+  packedLine = lineFor packedName (searchRefusal delta gamma x y) (windows (length x) (length y))
 
   abbrev pub lastLine : List ℕ
   lastLine =

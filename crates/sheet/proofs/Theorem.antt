@@ -7,7 +7,6 @@ use Rattle.fit.specs.Listing.{upTo}
 use Rattle.fit.specs.Walk.{walkBy, walk}
 use Rattle.fit.specs.Refusal.{questionRefusal, searchRefusal}
 use Rattle.counters.specs.Width.{leastFrom, lowBits}
-use Rattle.packed.specs.Fourth.{packedRefusal}
 use Rattle.jumps.specs.Least.{greatest, least, allBelow, someBelow}
 use Rattle.jumps.specs.Jumps.{lonely, loneAt, loneJump, earlier, agreesAt, mismatchAt, mismatchJump, fullAt, fullJump}
 use Rattle.comparing.specs.Order.{withLone, falling}
@@ -19,5 +18,5 @@ use Rattle.sheet.specs.Sheet.{sheet, Holds}
 use Rattle.sheet.proofs.Tables.{equal, passes, passing-holds}
 
 pub sheet-holds : Holds sheet
-unfolding equal passes alike near allFit sumCost isPlaceBy isPlace upTo walkBy walk questionRefusal searchRefusal leastFrom lowBits packedRefusal greatest least allBelow someBelow lonely loneAt loneJump earlier agreesAt mismatchAt mismatchJump fullAt fullJump withLone falling jumpAnswer mismatchRefusal lastTries lastNext probed probes skipWalk comparedJump maximalNext
+unfolding equal passes alike near allFit sumCost isPlaceBy isPlace upTo walkBy walk questionRefusal searchRefusal leastFrom lowBits greatest least allBelow someBelow lonely loneAt loneJump earlier agreesAt mismatchAt mismatchJump fullAt fullJump withLone falling jumpAnswer mismatchRefusal lastTries lastNext probed probes skipWalk comparedJump maximalNext
 sheet-holds = passing-holds sheet refl

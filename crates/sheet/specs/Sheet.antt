@@ -8,7 +8,7 @@ use Rattle.fit.specs.Place.{fitOf, dOf, windows}
 use Rattle.fit.specs.Refusal.{questionRefusal, searchRefusal}
 use Rattle.fit.specs.Answer.{soughtOf, all}
 use Rattle.counters.specs.Width.{widthOf}
-use Rattle.packed.specs.Fourth.{bitsOf, packedRefusal}
+use Rattle.packed.specs.Needs.{bitsOf, wordsOf}
 use Rattle.jumps.specs.Jumps.{lastJump, mismatchJump}
 use Rattle.questions.specs.declared.Jump.{Jump}
 use Rattle.questions.specs.Asking.{jumpAnswer, mismatchRefusal}
@@ -21,7 +21,7 @@ pub data Row : Type 0 where
   places-are : (x y : List ℕ) (delta gamma : ℕ) (places : List ℕ) → Row
   tried-are : (x y : List ℕ) (delta gamma plain last skip maximal : ℕ) → Row
   width-is : (g width : ℕ) → Row
-  packed-is : (x : List ℕ) (delta gamma bits refusal : ℕ) → Row
+  packed-is : (x : List ℕ) (delta gamma bits words : ℕ) → Row
   last-reading-is : (x : List ℕ) (delta gamma a jump : ℕ) → Row
   mismatch-is : (x : List ℕ) (delta gamma p jump : ℕ) → Row
 
@@ -38,16 +38,16 @@ found (tried-are x y delta gamma plain last skip maximal) =
     ∷ length (maximalWalk (dOf delta gamma) x y)
     ∷ []
 found (width-is g width) = widthOf g ∷ []
-found (packed-is x delta gamma bits refusal) = bitsOf delta gamma (length x) ∷ packedRefusal delta gamma x [] ∷ []
+found (packed-is x delta gamma bits words) = searchRefusal delta gamma x [] ∷ bitsOf delta gamma (length x) ∷ wordsOf delta gamma (length x) ∷ []
 found (last-reading-is x delta gamma a jump) = answered (jumpAnswer (questionRefusal delta gamma x) (lastJump (fitOf (dOf delta gamma) x) (length x) a))
 found (mismatch-is x delta gamma p jump) = answered (jumpAnswer (mismatchRefusal delta gamma x p) (mismatchJump (dOf delta gamma) x (p - 1)))
 
--- what the sheet has: no row's search or question is refused, but by packed
+-- what the sheet has: no row's search or question is refused
 abbrev pub stated : Row → List ℕ
 stated (places-are x y delta gamma places) = 0 ∷ places
 stated (tried-are x y delta gamma plain last skip maximal) = plain ∷ last ∷ skip ∷ maximal ∷ []
 stated (width-is g width) = width ∷ []
-stated (packed-is x delta gamma bits refusal) = bits ∷ refusal ∷ []
+stated (packed-is x delta gamma bits words) = 0 ∷ bits ∷ words ∷ []
 stated (last-reading-is x delta gamma a jump) = 0 ∷ jump ∷ []
 stated (mismatch-is x delta gamma p jump) = 0 ∷ jump ∷ []
 
@@ -62,7 +62,7 @@ P = 40 ∷ 42 ∷ 44 ∷ []
 abbrev L : List ℕ
 L = 40 ∷ 42 ∷ 44 ∷ 41 ∷ 43 ∷ 45 ∷ 39 ∷ 42 ∷ 43 ∷ 70 ∷ 41 ∷ 41 ∷ 43 ∷ 40 ∷ []
 
--- E1 to E13, in order; behind E4 the windows tried that the program prints for it
+-- E1 to E13, in order, and of E10's second input what #104 says: "accepted, in two words"; behind E4 the windows tried that the program prints for it
 abbrev pub sheet : List Row
 sheet =
     places-are P [] 1 2 []
@@ -79,8 +79,8 @@ sheet =
     ∷ width-is 3 3
     ∷ width-is 4 4
     ∷ width-is 16320 15
-    ∷ packed-is (replicate 16 40) 1 7 64 0
-    ∷ packed-is (replicate 16 40) 1 8 80 4
+    ∷ packed-is (replicate 16 40) 1 7 64 1
+    ∷ packed-is (replicate 16 40) 1 8 80 2
     ∷ last-reading-is P 1 2 44 0
     ∷ last-reading-is P 1 2 41 1
     ∷ last-reading-is P 1 2 40 2

@@ -1,13 +1,17 @@
 -- How the counters begin, and what the last one tells. Assumes nothing.
-use mathlib.Core.Path.{_≡_, refl, ap, _∙_}
+use mathlib.Core.Path.{_≡_, refl, sym, ap, _∙_}
 use mathlib.Core.Logic.{_↔_, ⊎-elim}
-use Prim.Native.Nat.{ℕ, suc, _+_, _-_, _*_, _/_, _^_, _≤_, _<_}
-use native.Mathlib.Nat.{mul-suc, add-comm, div-lt-iff-lt-mul}
+use Prim.Native.Nat.{ℕ, suc, _+_, _-_, _*_, _/_, _%_, _^_, _≤_, _<_}
+use native.Mathlib.Nat.{mul-suc, add-comm, zero-mul, div-eq-of-lt, div-eq-of-lt-le}
+use native.Mathlib.Numerals.{add-one}
 use native.Mathlib.Omega.{arith}
-use lib.Pow.{shr-mod, pow-pos, pow-add}
-use Rattle.counters.specs.Word.{counter, Laid}
+use lib.Pow.{shr-mod, shr-shr, field, pow-pos}
+use lib.Bits.{bitAnd}
+use Rattle.counters.specs.Word.{wordBits, counter, Laid}
 use Rattle.counters.specs.Sums.{Stands, Agrees, moved, stepped}
 use Rattle.counters.proofs.Laws.Widths.{le-or-lt}
+use Rattle.counters.proofs.Laws.Fields.{counter-lt}
+use Rattle.counters.proofs.Laws.Growth.{top-bit}
 
 -- what stands at the first point after a move, and at the others
 pub moved-first : (p : ℕ) (s : ℕ → ℕ) → moved p s 0 ≡ p
@@ -34,22 +38,40 @@ module _ (b g m : ℕ) where
     each = λ i h. rw (laid .each i h) (let l : g < s i = above i h in record { top = omega arith; low = λ k. absurd (omega arith) });
   }
 
-  module _ (some : 1 ≤ m) where
-    -- the last counter is what stands above the others
-    whole : suc b * m ≡ suc b + suc b * (m - 1)
-    whole = ap (λ (x : ℕ). suc b * x) (omega arith) ∙ mul-suc (suc b) (m - 1) ∙ add-comm (suc b * (m - 1)) (suc b)
+-- a word without its last counter, and the last counter without the others
+module _ (b n : ℕ) (some : 1 ≤ n) where
+  whole : suc b * n ≡ suc b + suc b * (n - 1)
+  whole = ap (λ (x : ℕ). suc b * x) (omega arith) ∙ mul-suc (suc b) (n - 1) ∙ add-comm (suc b * (n - 1)) (suc b)
 
-    last-stands : (w : ℕ) (s : ℕ → ℕ) → Agrees b g m w s → Stands b g (w / 2 ^ (suc b * (m - 1))) (s (m - 1))
-    unfolding counter
-    last-stands w s a = rw (← (shr-mod {n = w} (suc b) (suc b * (m - 1)) (rw whole at (a .bound)))) (a .each (m - 1) (omega arith))
+  pub above-lt : suc b * n ≤ wordBits → (b + 1) * (n - 1) < wordBits
+  above-lt fit = rw add-one (omega (arith, whole))
 
-    -- the last top bit is clear exactly where the word is below it
-    pub last-below : (w : ℕ) (s : ℕ → ℕ) → Agrees b g m w s → (w < 2 ^ (suc b * m - 1)) ↔ (s (m - 1) ≤ g)
-    last-below w s a =
-        let e : suc b * m - 1 ≡ b + suc b * (m - 1) = omega (arith, whole) in
-        let t = last-stands w s a .top in
-        let q = div-lt-iff-lt-mul {k = 2 ^ (suc b * (m - 1))} {x = w} {y = 2 ^ b} (pow-pos (suc b * (m - 1))) in
-        rw (e, pow-add 2 b (suc b * (m - 1))) (
-          (λ k. ⊎-elim (λ r. r) (λ r. absurd (omega (arith, t .1 r, q .1 k))) (le-or-lt (s (m - 1)) g)),
-          (λ k. q .0 (⊎-elim (λ r. absurd (omega (arith, t .0 r))) (λ r. r) (le-or-lt (2 ^ b) (w / 2 ^ (suc b * (m - 1)))))),
-        )
+  pub top-counter : (w : ℕ) → w < 2 ^ (suc b * n) → w / 2 ^ (suc b * (n - 1)) ≡ counter (suc b) w (n - 1)
+  unfolding counter
+  top-counter w h = sym (shr-mod {n = w} (suc b) (suc b * (n - 1)) (rw whole at h))
+
+-- the top bit of counter i, taken out of its word
+bit-is : (b w i : ℕ) → bitAnd w (2 ^ (suc b * i + b)) ≡ (counter (suc b) w i / 2 ^ b) * 2 ^ (suc b * i + b)
+unfolding counter
+bit-is b w i = top-bit (suc b * i + b) w ∙ ap (λ (n : ℕ). n * 2 ^ (suc b * i + b)) here
+  where
+    here : w / 2 ^ (suc b * i + b) % 2 ≡ w / 2 ^ (suc b * i) % 2 ^ suc b / 2 ^ b
+    here =
+        sym (ap (λ (n : ℕ). n % 2) (shr-shr w (suc b * i) b))
+        ∙ sym (field (w / 2 ^ (suc b * i)) 1 b)
+        ∙ ap (λ (n : ℕ). w / 2 ^ (suc b * i) % 2 ^ n / 2 ^ b) (omega arith)
+
+-- it is clear exactly where the sum that the counter stands for is at most g
+pub clear-exactly : (b g w i s : ℕ) → Stands b g (counter (suc b) w i) s → (bitAnd w (2 ^ (suc b * i + b)) ≡ 0) ↔ (s ≤ g)
+clear-exactly b g w i s stands = (
+  λ e. ⊎-elim (λ r. r) (λ r. absurd (set-there (stands .top .1 r) e)) (le-or-lt s g),
+  λ h. ⊎-elim (λ r. absurd (omega (arith, stands .top .0 r))) clear-there (le-or-lt (2 ^ b) (counter (suc b) w i)),
+)
+  where
+    clear-there : counter (suc b) w i < 2 ^ b → bitAnd w (2 ^ (suc b * i + b)) ≡ 0
+    clear-there h = bit-is b w i ∙ ap (λ (n : ℕ). n * 2 ^ (suc b * i + b)) (div-eq-of-lt h) ∙ zero-mul (2 ^ (suc b * i + b))
+
+    set-there : 2 ^ b ≤ counter (suc b) w i → bitAnd w (2 ^ (suc b * i + b)) ≡ 0 → ⊥
+    set-there h e =
+        let one : counter (suc b) w i / 2 ^ b ≡ 1 = div-eq-of-lt-le {k = 1} (2 ^ b) {m = counter (suc b) w i} (omega arith) (omega (arith, counter-lt (suc b) w i)) in
+        omega (arith, pow-pos (suc b * i + b), bit-is b w i ∙ ap (λ (n : ℕ). n * 2 ^ (suc b * i + b)) one, e)

@@ -1,9 +1,9 @@
 -- Counters of l bits in a word, by their index: what `&`, `|`, `+`, a shift and a cut do to each counter. Assumes nothing.
 use mathlib.Core.Path.{_≡_, sym, ap, ap₂, _∙_}
 use Prim.Native.Nat.{ℕ, zero, suc, _+_, _-_, _*_, _/_, _%_, _^_, _≤_, _<_}
-use native.Mathlib.Nat.{mul-zero, mul-suc, add-comm, div-one, div-eq-of-lt, mod-lt, le-refl, div-lt-iff-lt-mul, one-mul}
+use native.Mathlib.Nat.{lt-of-lt-of-le, mul-le-mul-left, zero-mod, mul-zero, mul-suc, add-comm, div-one, div-eq-of-lt, mod-lt, le-refl, div-lt-iff-lt-mul, one-mul}
 use native.Mathlib.Omega.{arith}
-use lib.Pow.{pow-pos, high, low, split, shr-shr, field, mod-mod-pow}
+use lib.Pow.{pow-pos, pow-mono, high, low, split, shr-shr, field, mod-mod-pow}
 use lib.Bits.{bitAnd, bitOr, and-shr, and-mod, or-shr, or-mod, or-shifted}
 use Rattle.counters.specs.Word.{counter}
 
@@ -20,6 +20,12 @@ module _ (l : ℕ) where
   pub counter-lt : (a i : ℕ) → counter l a i < 2 ^ l
   unfolding counter
   counter-lt a i = mod-lt (a / 2 ^ (l * i)) (pow-pos l)
+
+  -- above what a word holds there is 0
+  pub counter-above : (w m i : ℕ) → w < 2 ^ (l * m) → m ≤ i → counter l w i ≡ 0
+  unfolding counter
+  counter-above w m i h k =
+      ap (λ (n : ℕ). n % 2 ^ l) (div-eq-of-lt (lt-of-lt-of-le h (pow-mono (mul-le-mul-left l k)))) ∙ zero-mod (2 ^ l)
 
   -- what lies above counter i
   pub above-next : (a i : ℕ) → a / 2 ^ (l * suc i) ≡ a / 2 ^ (l * i) / 2 ^ l

@@ -21,7 +21,7 @@ abbrev pub word-grown : ℕ → ℕ → ℕ → ℕ → ℕ
 word-grown d lows tops a = bitOr (bitAnd d lows + a) (bitAnd d tops)
 
 -- ---- one counter of b low bits and a top bit
-top-bit : (b c : ℕ) → bitAnd c (2 ^ b) ≡ (c / 2 ^ b % 2) * 2 ^ b
+pub top-bit : (b c : ℕ) → bitAnd c (2 ^ b) ≡ (c / 2 ^ b % 2) * 2 ^ b
 top-bit b c = ap (bitAnd c) (omega (arith, pow-add 2 1 b)) ∙ and-high c 1 b
 
 module _ (b g : ℕ) (room : g < 2 ^ b) where

@@ -1,14 +1,16 @@
 -- A word laid out counter by counter, each put in below the others. Assumes nothing.
 use mathlib.Core.Path.{_≡_, refl, sym, ap, _∙_}
+use mathlib.Core.Logic.{⊎-elim}
 use Prim.Native.Nat.{ℕ, zero, suc, _+_, _*_, _%_, _^_, _≤_, _<_}
-use native.Mathlib.Nat.{mul-suc, le-trans, le-of-eq, not-suc-le-zero, mul-le-mul-left}
+use native.Mathlib.Nat.{mul-suc, le-trans, le-of-eq, lt-of-lt-of-le, not-suc-le-zero, mul-le-mul-left}
 use native.Mathlib.Omega.{arith}
 use lib.Arith.{digits-lt}
-use lib.Pow.{pow-pos, pow-add, shl-exact}
+use lib.Pow.{pow-pos, pow-mono, pow-add, shl-exact}
 use lib.Bits.{bitOr, or-shifted}
 use Rattle.counters.specs.Word.{wordBits, counter, Laid}
 use Rattle.counters.specs.Sums.{moved}
-use Rattle.counters.proofs.Laws.Fields.{first, later, same-words}
+use Rattle.counters.proofs.Laws.Widths.{le-or-lt}
+use Rattle.counters.proofs.Laws.Fields.{counter-above, first, later, same-words}
 
 module _ (l : ℕ) where
   pub laid-none : (f : ℕ → ℕ) → Laid l 0 0 f
@@ -17,6 +19,15 @@ module _ (l : ℕ) where
   -- the counters hold the same by another rule
   pub laid-same : {m w : ℕ} {f f′ : ℕ → ℕ} → Laid l m w f → ((i : ℕ) → i < m → f i ≡ f′ i) → Laid l m w f′
   laid-same h e = record { bound = h .bound; each = λ i k. h .each i k ∙ e i k }
+
+  -- a word that holds m counters holds 0 in those above, up to the n-th
+  pub laid-wider : (m n w : ℕ) (f : ℕ → ℕ) → m ≤ n → ((i : ℕ) → m ≤ i → i < n → f i ≡ 0) → Laid l m w f → Laid l n w f
+  laid-wider m n w f h none laid = record { bound = lt-of-lt-of-le (laid .bound) (pow-mono (mul-le-mul-left l h)); each = each }
+    where
+      each : (i : ℕ) → i < n → counter l w i ≡ f i
+      each i k =
+          ⊎-elim (λ r. counter-above l w m i (laid .bound) r ∙ sym (none i r k)) (λ r. laid .each i r)
+          (le-or-lt m i)
 
   -- no second word holds the same
   pub no-second-word : (m w v : ℕ) (f : ℕ → ℕ) → Laid l m w f → Laid l m v f → w ≡ v

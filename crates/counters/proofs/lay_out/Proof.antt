@@ -50,7 +50,7 @@ returns c =
         start = omega (arith, half start);
       };
       b-is = refl;
-      m-is = refl;
+      per-is = refl;
       g-is = refl;
     }
 

@@ -20,7 +20,7 @@ add-result : tie.Need-add-result
 add-result c =
     let start = c .before .before in
     let a = start .args in
-    no-wrap _ _ (start .pre .0) (start .pre .2) (raised (a .k .b + 1) wordBits (a .word) (a .carry))
+    no-wrap _ _ (start .pre .0) (start .pre .2) (raised (a .k .b + 1) wordBits (a .word) (a .enters))
 
 returns : tie.Need-returns
 returns c =

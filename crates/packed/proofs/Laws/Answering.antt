@@ -1,32 +1,37 @@
 -- The whole search: what is known where nothing refuses it, and that the sums by the table tell the places. Assumes nothing.
-use mathlib.Core.Path.{_≡_, refl, ap}
+use mathlib.Core.Path.{_≡_, refl, ap, _∙_}
 use mathlib.Core.Bool.{true}
 use mathlib.Core.List.{List}
-use Prim.Native.Nat.{ℕ, suc, _+_, _*_, _^_, _≤_, _<_}
-use native.Mathlib.Nat.{mul-le-mul, mul-le-mul-right}
+use Prim.Native.Nat.{ℕ, suc, _+_, _-_, _*_, _/_, _^_, _≤_, _<_}
+use native.Mathlib.Nat.{mul-le-mul-right}
 use native.Mathlib.Numerals.{add-one}
 use native.Mathlib.Omega.{arith}
 use lib.ListN.{length, getD}
-use Rattle.fit.specs.Reading.{near}
+use Rattle.fit.specs.Reading.{highest, near}
 use Rattle.fit.specs.Rule.{readingAt, sumCost, isPlaceBy}
 use Rattle.fit.specs.Place.{costOf, sumDiff, Place, isPlace, windows, dOf, gOf}
-use Rattle.fit.specs.Refusal.{maxPoints, Accepted}
-use Rattle.fit.specs.Answer.{soughtOf, Lent, Answer}
+use Rattle.fit.specs.Refusal.{maxPoints, maxGamma, Accepted}
+use Rattle.fit.specs.Answer.{soughtOf, Lent, Answer, Answers}
 use Rattle.fit.specs.declared.answer.Search.{Search}
 use Rattle.fit.proofs.Laws.Bools.{same-test}
 use Rattle.fit.proofs.Laws.Rules.{fit-all, sum-term, sum-same, by-is, by-inside, by-within}
 use Rattle.fit.proofs.Laws.Places.{place-of, place-fits, place-test, test-place, place-down, place-up}
-use Rattle.counters.specs.Width.{lowBits}
+use Rattle.fit.proofs.Laws.Refusals.{none-exactly}
+use Rattle.counters.specs.Width.{lowBits, widthOf}
 use Rattle.counters.specs.Word.{wordBits}
+use Rattle.counters.specs.Words.{perWord, Needed, wordsFor}
 use Rattle.counters.specs.Sound.{LaidOut}
 use Rattle.counters.specs.declared.Masks.{Masks}
 use Rattle.counters.proofs.Laws.Widths.{low-bits-least, room-next}
-use Rattle.packed.specs.Adding.{addedOf, summing}
-use Rattle.packed.specs.Tables.{Room, costIn, Tabled, Addable, soughtIn}
-use Rattle.packed.specs.Fourth.{bitsOf, PackedAnswers}
-use Rattle.packed.proofs.Laws.Costing.{added-near, added-fits, added-le}
-use Rattle.packed.proofs.Laws.Filling.{tabled-addable}
-use Rattle.packed.proofs.Laws.Refusing.{packed-accepted}
+use Rattle.counters.proofs.Laws.Counts.{per-fits, some-word}
+use Rattle.adding.specs.Costs.{addedOf}
+use Rattle.adding.specs.Tables.{Room, costIn, Tabled}
+use Rattle.adding.proofs.Laws.Costing.{added-near, added-fits, added-le}
+use Rattle.adding.proofs.Laws.Filling.{costs-tabled}
+use Rattle.packed.specs.Following.{Scannable, summing, soughtIn}
+use Rattle.packed.specs.Needs.{wordsOf, maxWords}
+use Rattle.packed.proofs.Laws.Following.{tabled-addable}
+use Rattle.packed.proofs.Laws.Serving.{width-most, four-to-a-word, sixteen-serve, just-needed}
 
 -- ---- the window at s under (d, g): its sum of additions is at most g exactly where it is a place
 module _ (delta gamma : ℕ) (x y : List ℕ) (cost : ℕ → ℕ → ℕ) (s : ℕ) where
@@ -65,62 +70,92 @@ pub record Open (delta gamma : ℕ) (x y : List ℕ) (d g b : ℕ) : Type 0 wher
   pub d-is : d ≡ dOf delta gamma
   pub g-is : g ≡ gOf (length x) delta gamma
   pub b-is : b ≡ lowBits g
-  pub narrow : b ≤ 32
 
 pub opened : (delta gamma : ℕ) (x y : List ℕ) (d g b : ℕ) → Accepted delta gamma x y → d ≡ dOf delta gamma → g ≡ gOf (length x) delta gamma
     → (b ≡ lowBits g) × (b ≤ 32) → Open delta gamma x y d g b
-opened delta gamma x y d g b ok ed eg eb =
-    record { ok = ok; d-is = ed; g-is = eg; b-is = eb .0; narrow = eb .1 }
+opened delta gamma x y d g b ok ed eg eb = record { ok = ok; d-is = ed; g-is = eg; b-is = eb .0 }
 
--- the code's products with m fit its numbers
-pub product-le : (m n k : ℕ) → m ≤ maxPoints → n ≤ k → m * n ≤ maxPoints * k
-product-le m n k h l = mul-le-mul h l
-
-pub bits-are : (delta gamma : ℕ) (x y : List ℕ) (d g b : ℕ) → Open delta gamma x y d g b → bitsOf delta gamma (length x) ≡ length x * (b + 1)
-bits-are delta gamma x y d g b o = rw (add-one, o .b-is, o .g-is)
-
-module _ (delta gamma : ℕ) (x y : List ℕ) (d g b : ℕ) (o : Open delta gamma x y d g b) (fits : length x * (b + 1) ≤ wordBits) where
+module _ (delta gamma : ℕ) (x y : List ℕ) (d g b : ℕ) (o : Open delta gamma x y d g b) where
   d-le-g : d ≤ g
   d-le-g = omega (arith, o .d-is, o .g-is, mul-le-mul-right (dOf delta gamma) (o .ok .asked .some))
 
-  pub may-lay-out : (1 ≤ length x) × (b < 63) × (suc b * length x ≤ wordBits) × (g < 2 ^ b)
-  may-lay-out =
-      let room : g < 2 ^ b = rw (o .b-is) (low-bits-least g .room) in
-      (o .ok .asked .some, omega (arith, o .narrow), omega (arith, fits), room)
+  g-small : g ≤ maxGamma
+  g-small = omega (arith, o .g-is, o .ok .asked .gamma-small)
 
-  pub may-add : Room (b + 1) d g x
-  may-add =
-      let room : g < 2 ^ b = may-lay-out .3 in
-      record {
-        narrow = omega (arith, o .narrow);
-        fit = omega (arith, fits);
-        each-small = d-le-g;
-        sum-small = omega (arith, o .g-is, o .ok .asked .gamma-small);
-        top = room-next g b room;
-      }
+  room : g < 2 ^ b
+  room = rw (o .b-is) (low-bits-least g .room)
 
-  -- the table that was built, and the masks
-  module _ (k : Masks) (t : List ℕ) (laid : LaidOut b (length x) g k) (tabled : Tabled (b + 1) (length x) (addedOf d g x) t) where
-    by-masks : Tabled (suc (k .b)) (k .m) (addedOf d g x) t
-    by-masks = rw (laid .b-is, laid .m-is, ← (add-one b)) tabled
+  -- the code's width, and how many counters it puts in a word
+  width-is : b + 1 ≡ widthOf (gOf (length x) delta gamma)
+  width-is = rw (add-one, o .b-is, o .g-is)
 
-    pub may-scan : Addable (k .b) (k .g) (k .m) t
-    may-scan = tabled-addable (k .b) (k .g) (k .m) (addedOf d g x) t by-masks (λ i a. rw (laid .g-is) (added-le d g (getD x i 0) a d-le-g))
+  pub narrow : b + 1 ≤ 15
+  narrow = rw (add-one, o .b-is) (width-most g g-small)
 
-    module _ (bytes : (j : ℕ) → getD y j 0 < 256) where
-      table-sum : (s : ℕ) → sumCost (costIn (suc (k .b)) t) y s (length x) ≡ sumCost (addedOf d g x) y s (length x)
-      table-sum s =
-          sum-same (costIn (suc (k .b)) t) (addedOf d g x) y s (length x)
-          (λ i h. by-masks .each (readingAt y s i) (bytes (s + i)) .each i (rw (laid .m-is) h))
+  some-to-a-word : 4 ≤ wordBits / (b + 1)
+  some-to-a-word = rw (add-one, o .b-is) (four-to-a-word g g-small)
 
-      same-test-at : (s : ℕ) → soughtIn k t y .place s ≡ isPlace delta gamma x y s
-      same-test-at s = rw (laid .m-is, laid .g-is, o .g-is) (sums-tell delta gamma x y (costIn (suc (k .b)) t) s (rw (o .d-is, o .g-is) at (table-sum s)))
+  pub may-lay-out : (1 ≤ wordBits / (b + 1)) × (b < 63) × (suc b * (wordBits / (b + 1)) ≤ wordBits) × (g < 2 ^ b)
+  may-lay-out = (omega (arith, some-to-a-word), omega (arith, narrow), rw (← (add-one b)) (per-fits (b + 1)), room)
 
-      same-sought : soughtIn k t y ≡ soughtOf delta gamma x y
-      same-sought = λ i. record { count = ap (λ (m : ℕ). windows m (length y)) (laid .m-is) i; place = λ s. same-test-at s i }
+  module _ (k : Masks) (laid : LaidOut b (wordBits / (b + 1)) g k) where
+    per-is : k .per ≡ perWord (widthOf (gOf (length x) delta gamma))
+    per-is = laid .per-is ∙ ap perWord width-is
 
-      pub answered : {entry final : Lent} {r : Search} → Answer 0 (soughtIn k t y) (windows (k .m) (length y)) entry r final
-          → PackedAnswers delta gamma x y entry r final
-      answered a =
-          rw (packed-accepted delta gamma x y (o .ok) (omega (arith, bits-are delta gamma x y d g b o)))
-          (rw (same-sought, laid .m-is) at a)
+    module _ (used : ℕ) (u : used ≡ (length x + (k .per - 1)) / k .per) where
+      used-is : used ≡ wordsOf delta gamma (length x)
+      used-is = u ∙ ap (λ (n : ℕ). wordsFor n (length x)) per-is
+
+      needed : Needed (k .per) (length x) used
+      needed = rw (per-is, used-is) (just-needed delta gamma x (o .ok .asked))
+
+      pub few-words : used ≤ maxWords
+      few-words = rw used-is (sixteen-serve delta gamma x (o .ok .asked))
+
+      pub may-add : Room (b + 1) (k .per) d g × (1 ≤ k .per) × (1 ≤ used) × (used ≤ maxPoints) × (suc highest * used ≤ 4096)
+      may-add = (
+        record {
+          some = omega arith;
+          narrow = omega (arith, narrow);
+          fit = rw (laid .per-is) (per-fits (b + 1));
+          each-small = d-le-g;
+          sum-small = omega (arith, g-small);
+          top = room-next g b room;
+        },
+        laid .sound .some,
+        some-word (k .per) (length x) (laid .sound .some) used (o .ok .asked .some) needed,
+        omega (arith, few-words),
+        omega (arith, few-words),
+      )
+
+      -- the table that was built
+      module _ (t : List ℕ) (tabled : Tabled (b + 1) (k .per) used (length x) (addedOf d g x) t) where
+        by-masks : Tabled (suc (k .b)) (k .per) used (length x) (addedOf d g x) t
+        by-masks = rw (laid .b-is, ← (add-one b)) tabled
+
+        pub may-scan : Scannable k (length x) used t y
+        may-scan = record {
+          sound = laid .sound;
+          some = o .ok .asked .some;
+          needed = needed;
+          addable = tabled-addable (k .b) (k .g) (k .per) used (length x) (addedOf d g x) t (laid .sound .some) by-masks
+              (λ i a. rw (laid .g-is) (added-le d g (getD x i 0) a d-le-g));
+          short = o .ok .short;
+        }
+
+        module _ (bytes : (j : ℕ) → getD y j 0 < 256) where
+          table-sum : (s : ℕ) → sumCost (costIn (suc (k .b)) (k .per) used t) y s (length x) ≡ sumCost (addedOf d g x) y s (length x)
+          table-sum s =
+              sum-same (costIn (suc (k .b)) (k .per) used t) (addedOf d g x) y s (length x)
+              (λ i h. costs-tabled (suc (k .b)) (k .per) used (length x) (addedOf d g x) t by-masks (needed .enough) i (readingAt y s i) h (bytes (s + i)))
+
+          same-test-at : (s : ℕ) → soughtIn k (length x) used t y .place s ≡ isPlace delta gamma x y s
+          same-test-at s =
+              rw (laid .g-is, o .g-is) (sums-tell delta gamma x y (costIn (suc (k .b)) (k .per) used t) s (rw (o .d-is, o .g-is) at (table-sum s)))
+
+          same-sought : soughtIn k (length x) used t y ≡ soughtOf delta gamma x y
+          same-sought = λ i. record { count = windows (length x) (length y); place = λ s. same-test-at s i }
+
+          pub answered : {entry final : Lent} {r : Search} → Answer 0 (soughtIn k (length x) used t y) (windows (length x) (length y)) entry r final
+              → Answers delta gamma x y (windows (length x) (length y)) entry r final
+          answered a = rw (none-exactly delta gamma x y .1 (o .ok)) (rw same-sought at a)

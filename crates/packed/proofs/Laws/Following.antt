@@ -1,26 +1,39 @@
--- The word over the readings: it follows the separate sums, and its last top bit tells whether a window is a place. Assumes nothing.
+-- The words over the readings: they follow the separate sums, and the top bit of the last point's counter tells whether a window is a place.
+-- Assumes nothing.
 use mathlib.Core.Path.{_≡_, refl, sym, ap, _∙_}
 use mathlib.Core.Bool.{true}
-use mathlib.Core.List.{List}
-use Prim.Native.Nat.{ℕ, zero, suc, _+_, _-_, _*_, _%_, _^_, _≤_, _<_}
-use native.Mathlib.Nat.{add-suc}
+use mathlib.Core.List.{List, _∷_, _++_}
+use Prim.Native.Nat.{ℕ, zero, suc, _+_, _-_, _*_, _/_, _%_, _^_, _≤_, _<_}
+use native.Mathlib.Nat.{add-suc, sub-zero, mod-lt, mul-le-mul-left}
 use native.Mathlib.Numerals.{add-one}
 use native.Mathlib.Omega.{arith}
-use lib.ListN.{length, getD}
-use lib.Dec.{ltb}
-use borrow.Author.Tests.{ltb-true, lt-ltb}
+use lib.Arith.{digits-lt}
+use lib.ListN.{length, getD, take, replicate, getD-replicate}
+use lib.Seq.{take-at}
+use lib.Bits.{bitAnd}
+use lib.Dec.{eqb}
+use borrow.Author.Tests.{eqb-true, eq-eqb}
 use Rattle.fit.specs.Rule.{readingAt, sumCost}
+use Rattle.fit.specs.Place.{windows}
+use Rattle.fit.specs.Answer.{Lent, begun}
+use Rattle.fit.specs.declared.answer.Search.{Search}
 use Rattle.fit.proofs.Laws.Bools.{same-test}
 use Rattle.fit.proofs.Laws.Rules.{fit-all, sum-none, sum-more, by-is, by-within}
-use Rattle.counters.specs.Sums.{Turned}
+use Rattle.counters.specs.Word.{wordBits, counter}
+use Rattle.counters.specs.Sums.{Stands}
+use Rattle.counters.specs.Words.{Needed, across, TurnedAcross}
 use Rattle.counters.specs.Sound.{Sound}
 use Rattle.counters.specs.declared.Masks.{Masks}
 use Rattle.counters.proofs.Laws.Widths.{one-shifted}
-use Rattle.counters.proofs.Laws.Ends.{moved-first, moved-next, stepped-is, enters, all-above, last-below}
-use Rattle.packed.specs.Adding.{addedOf, summing}
+use Rattle.counters.proofs.Laws.Ends.{moved-first, moved-next, stepped-is, enters, all-above, clear-exactly}
+use Rattle.counters.proofs.Laws.Counts.{last-word}
+use Rattle.counters.proofs.Laws.Across.{across-is, across-at, agrees-across}
+use Rattle.adding.specs.Costs.{addedOf}
+use Rattle.adding.specs.Tables.{rowOf, costIn, padded, Tabled}
+use Rattle.adding.proofs.Laws.Costing.{added-zero}
+use Rattle.adding.proofs.Laws.Filling.{padded-small, row-length}
 use Rattle.packed.specs.Separate.{after}
-use Rattle.packed.specs.Tables.{costIn, Follows, soughtIn}
-use Rattle.packed.proofs.Laws.Costing.{added-zero}
+use Rattle.packed.specs.Following.{Addable, Scannable, Follows, summing, soughtIn, Scans}
 
 -- ---- the separate sums
 module _ (g : ℕ) (cost : ℕ → ℕ → ℕ) (y : List ℕ) where
@@ -55,49 +68,108 @@ pub zero-above : (d g : ℕ) (x y : List ℕ) (j i : ℕ) → getD y j 0 ≡ 0 �
 zero-above d g x y j zero e = omega (arith, after-first g (addedOf d g x) y j, added-zero d g (getD x 0 0) (getD y j 0) e)
 zero-above d g x y j (suc i) e = omega (arith, after-next g (addedOf d g x) y j i, added-zero d g (getD x (suc i) 0) (getD y j 0) e)
 
--- ---- the word
+-- ---- words that are a part of an array
+-- at first they are all the same
+pub fresh-part : (used n top : ℕ) → used ≤ n → take (used - 0) (replicate {A = ℕ} n top) ≡ replicate used top
+fresh-part used n top h = rw sub-zero (front used n h)
+  where
+    front : (used n : ℕ) → used ≤ n → take used (replicate {A = ℕ} n top) ≡ replicate used top
+    front zero n h = refl
+    front (suc used) zero h = absurd (omega arith)
+    front (suc used) (suc n) h = ap (λ (ws : List ℕ). top ∷ ws) (front used n (omega arith))
+
+-- and where they were put back in front of the rest, they are the part again
+pub same-part : (used : ℕ) (words rest : List ℕ) → length words ≡ used → take (used - 0) (words ++ rest) ≡ words
+same-part used words rest e = rw sub-zero (take-at words rest used e)
+
+-- ---- the words
 module _ (k : Masks) (ok : Sound k) where
   -- the entering counter is a counter
   pub enter-lt : k .enter < 2 ^ suc (k .b)
   enter-lt = omega (arith, ok .start)
 
-  pub follows-start : (t y : List ℕ) → Follows k t y (k .top) 0
-  follows-start t y =
-      let cost : ℕ → ℕ → ℕ = costIn (suc (k .b)) t in
-      record {
-        agrees = all-above (k .b) (k .g) (k .m) (k .top) (after (k .g) cost y 0) (ok .tops) (λ i h. early (k .g) cost y 0 i (omega arith));
-      }
+  -- the code's number with the top bit of the last point's counter alone
+  pub last-inside : (m : ℕ) → ((m - 1) % k .per < k .per) × ((k .b + 1) * ((m - 1) % k .per) + k .b < wordBits) × (k .per ≤ wordBits)
+  last-inside m =
+      let at : (m - 1) % k .per < k .per = mod-lt (m - 1) (ok .some) in
+      let below : suc (k .b) * suc ((m - 1) % k .per) ≤ suc (k .b) * k .per = mul-le-mul-left (suc (k .b)) at in
+      (at, omega (arith, below, ok .fit), omega (arith, ok .fit))
 
-  pub follows-more : (t y : List ℕ) (word j r : ℕ) → Follows k t y word j → Turned (k .b) (k .g) (k .m) word (k .enter) (getD t (getD y j 0) 0) r
-      → Follows k t y r (j + 1)
+  pub last-shifted : (m : ℕ) → (1 * 2 ^ ((k .b + 1) * ((m - 1) % k .per) + k .b)) % 2 ^ 64 ≡ 2 ^ (suc (k .b) * ((m - 1) % k .per) + k .b)
+  last-shifted m =
+      one-shifted ((k .b + 1) * ((m - 1) % k .per) + k .b) (omega (arith, last-inside m))
+      ∙ ap (λ (l : ℕ). 2 ^ (l * ((m - 1) % k .per) + k .b)) (add-one (k .b))
+
+module _ (k : Masks) (ok : Sound k) (used : ℕ) (t y : List ℕ) where
+  abbrev cost : ℕ → ℕ → ℕ
+  cost = costIn (suc (k .b)) (k .per) used t
+
+  pub follows-start : (words : List ℕ) → length words ≡ used → words ≡ replicate used (k .top) → Follows k used t y words 0
+  follows-start words long e = record {
+    long = long;
+    agrees = agrees-across (k .b) (k .g) (k .per) (ok .some) words (after (k .g) cost y 0)
+        (λ j h.
+        let top : getD words j 0 ≡ k .top = ap (λ (ws : List ℕ). getD ws j 0) e ∙ getD-replicate used j (k .top) 0 (rw (← long) h) in
+        rw top (all-above (k .b) (k .g) (k .per) (k .top) _ (ok .tops) (λ i _. early (k .g) cost y 0 (j * k .per + i) (omega arith))));
+  }
+
+  pub follows-more : (words : List ℕ) (j : ℕ) (next : List ℕ) → Follows k used t y words j
+      → TurnedAcross (k .b) (k .g) (k .per) words (k .enter) (rowOf used t (getD y j 0)) next → Follows k used t y next (j + 1)
   unfolding after
-  follows-more t y word j r f turn =
-      let sums : ℕ → ℕ = after (k .g) (costIn (suc (k .b)) t) y j in
-      rw add-one (record { agrees = turn .agrees 0 sums (enters (k .b) (k .g) (k .m) (k .enter) (ok .start)) (f .agrees) })
+  follows-more words j next f turn =
+      rw add-one (record {
+        long = turn .long ∙ f .long;
+        agrees = turn .agrees 0 (after (k .g) cost y j) (enters (k .b) (k .g) (k .per) (k .enter) (ok .start)) (f .agrees);
+      })
 
-  -- the code's number with the last top bit alone
-  last-is : (1 * 2 ^ ((k .b + 1) * k .m - 1)) % 2 ^ 64 ≡ 2 ^ (suc (k .b) * k .m - 1)
-  last-is = rw add-one (one-shifted (suc (k .b) * k .m - 1) (omega (arith, ok .fit)))
-
-  pub last-place : (1 ≤ (k .b + 1) * k .m) × ((k .b + 1) * k .m ≤ 64)
-  last-place = rw add-one (omega (arith, ok .fit, ok .some))
-
-  module _ (t y : List ℕ) (word s : ℕ) (inside : s + k .m ≤ length y) (f : Follows k t y word (s + k .m)) where
-    abbrev cost : ℕ → ℕ → ℕ
-    cost = costIn (suc (k .b)) t
-
-    last-sum : after (k .g) cost y (s + k .m) (k .m - 1) ≡ sumCost cost y s (k .m)
+  -- the window at s of m points is a place under the sums alone exactly where the top bit of the last point's counter is clear
+  module _ (m s : ℕ) (some : 1 ≤ m) (needed : Needed (k .per) m used) (inside : s + m ≤ length y) (words : List ℕ) (f : Follows k used t y words (s + m)) where
+    last-sum : after (k .g) cost y (s + m) (m - 1) ≡ sumCost cost y s m
     last-sum =
-        let e : s + k .m ≡ suc (s + (k .m - 1)) = omega (arith, ok .some) in
-        let e′ : k .m - 1 + 1 ≡ k .m = omega (arith, ok .some) in
-        ap (λ (j : ℕ). after (k .g) cost y j (k .m - 1)) e ∙ sum-is (k .g) cost y (k .m - 1) s ∙ ap (sumCost cost y s) e′
+        let e : s + m ≡ suc (s + (m - 1)) = omega arith in
+        let e′ : m - 1 + 1 ≡ m = omega arith in
+        ap (λ (j : ℕ). after (k .g) cost y j (m - 1)) e ∙ sum-is (k .g) cost y (m - 1) s ∙ ap (sumCost cost y s) e′
 
-    -- the window at s is a place under the sums alone exactly where the word is below its last top bit
-    pub judged : ltb word ((1 * 2 ^ ((k .b + 1) * k .m - 1)) % 2 ^ 64) ≡ soughtIn k t y .place s
+    last-stands : Stands (k .b) (k .g) (counter (suc (k .b)) (getD words (used - 1) 0) ((m - 1) % k .per)) (after (k .g) cost y (s + m) (m - 1))
+    last-stands =
+        let at : (m - 1) / k .per ≡ used - 1 = last-word (k .per) m (ok .some) used some needed in
+        rw (across-is (suc (k .b)) (k .per) words (m - 1), at) at (f .agrees .each (m - 1) (rw (f .long) (omega (arith, needed .enough))))
+
+    pub judged : eqb (bitAnd (getD words (used - 1) 0) (2 ^ (suc (k .b) * ((m - 1) % k .per) + k .b))) 0 ≡ soughtIn k m used t y .place s
     judged =
-        let told = last-below (k .b) (k .g) (k .m) (ok .some) word (after (k .g) cost y (s + k .m)) (f .agrees) in
-        rw last-is
-        (same-test _ _
-        (λ e. by-is (summing cost) (k .m) (k .g) y s inside (fit-all (λ i a. true) y s (k .m) (λ i h. refl))
-        (omega (arith, last-sum, told .0 (ltb-true _ _ e))))
-        (λ e. lt-ltb _ _ (told .1 (omega (arith, last-sum, by-within (summing cost) (k .m) (k .g) y s e)))))
+        let told = clear-exactly (k .b) (k .g) (getD words (used - 1) 0) ((m - 1) % k .per) (after (k .g) cost y (s + m) (m - 1)) last-stands in
+        same-test _ _
+        (λ e. by-is (summing cost) m (k .g) y s inside (fit-all (λ i a. true) y s m (λ i h. refl))
+        (omega (arith, last-sum, told .0 (eqb-true _ _ e))))
+        (λ e. eq-eqb _ _ (told .1 (omega (arith, last-sum, by-within (summing cost) m (k .g) y s e))))
+
+-- ---- a search in `used` words, where n are used and stand in an array of their own: what the lead asks, what the windows ask, and what they answer
+module _ (k : Masks) (m used n : ℕ) (t y : List ℕ) (e : used ≡ n) (given : Scannable k m used t y) where
+  pub may-lead : Scannable k m n t y
+  may-lead = rw (← e) given
+
+  module _ (words : List ℕ) (lead : ℕ) (f : (lead ≡ length y - windows m (length y)) × Follows k n t y words lead) where
+    pub may-window : (found : Search) → found ≡ begun 0
+        → (Scannable k m (length words) t y × (found ≡ begun 0)) × ((lead ≡ length y - windows m (length y)) × Follows k (length words) t y words lead)
+    may-window found none = rw (f .1 .long) ((may-lead, none), f)
+
+    pub scans-all : {entry final : Lent} {r : Search} → Scans k m (length words) t y entry r final → Scans k m used t y entry r final
+    scans-all a = rw e (rw (f .1 .long) at a)
+
+-- ---- a table of capped additions may be added to the counters
+pub tabled-addable : (b g n k m : ℕ) (cost : ℕ → ℕ → ℕ) (t : List ℕ) → 1 ≤ n → Tabled (suc b) n k m cost t → ((i a : ℕ) → cost i a ≤ g + 1) → Addable b g n k t
+tabled-addable b g n k m cost t some h capped = record {
+  long = h .long;
+  each = λ a byte.
+      let row : length (rowOf k t a) ≡ k = row-length k t a (h .long) byte in
+      let laid = h .each a byte in
+      record {
+        long = row;
+        each = λ j r. record {
+          bound = laid .whole .bound j (rw row r);
+          each = λ c s.
+              let at : across (suc b) n (rowOf k t a) (j * n + c) ≡ padded m (λ i. cost i a) (j * n + c) = laid .each (j * n + c) (rw row (digits-lt r s)) in
+              rw (← (across-at (suc b) n (rowOf k t a) j c s), at) (padded-small m (λ i. cost i a) (j * n + c) (g + 1) (capped (j * n + c) a));
+        };
+      };
+}

@@ -1,16 +1,15 @@
--- `packed::search` meets its contract: the refusals in their order, and then the scan by the masks and the table that were built.
-use Prim.Native.Nat.{_+_}
+-- `packed::search` meets its contract: refused as it begins, or the scan by the masks and the table that were built, in as many words as needed.
+use mathlib.Core.Path.{refl}
 use native.Mathlib.Omega.{arith}
-use borrow.Author.Needs.{needs}
-use Rattle.fit.proofs.Laws.Answers.{begins}
+use Rattle.fit.proofs.Laws.Answers.{refused, begins}
 use Rattle.fit.proofs.Laws.Constructed.{told-d, told-g}
 use Rattle.fit.proofs.Laws.Openings.{Underway, underway}
-use Rattle.packed.proofs.Laws.Refusing.{refused-first, refused-fourth}
-use Rattle.packed.proofs.Laws.Answering.{Open, opened, product-le, bits-are, may-lay-out, may-add, may-scan, answered}
+use Rattle.packed.proofs.Laws.Answering.{Open, opened, may-lay-out, few-words, may-add, may-scan, answered}
+use borrow.Author.Needs.{needs}
 use Rattle.packed.proofs.search.Statement.{statement}
 use Rattle.packed.proofs.search.Tie as tie
 
--- what is known past the common table
+-- what is known past the refusals
 abbrev Started : tie.Else1 → Type 0
 Started c =
     let a = c .before .before .before .before .before .before .before .args in
@@ -19,7 +18,7 @@ Started c =
 started : (c : tie.Else1) → Started c
 started c = underway _ _ _ _ (c .before .before .before .checked-search .ensures) (c .before .before .begin .ensures) (c .if1 .left)
 
--- and once d, g and b are there
+-- once d, g and b are there
 abbrev Opened : tie.After-low-bits → Type 0
 Opened c =
     let a = c .before .before .before .before .before .before .before .before .before .before .before .args in
@@ -37,13 +36,13 @@ begin-requires : tie.Need-begin-requires
 begin-requires c κs = search needs
 
 returns : tie.Need-returns
-returns c = refused-first _ _ _ _ _ (begins _ _ _ _ (c .before .before .before .checked-search .ensures) (c .before .before .begin .ensures)) (c .if1 .taken)
-
-cast-m : tie.Need-cast-m
-cast-m c = omega (arith, started c .ok)
+returns c = refused _ _ _ _ (begins _ _ _ _ (c .before .before .before .checked-search .ensures) (c .before .before .begin .ensures)) (c .if1 .taken)
 
 d-requires : tie.Need-d-requires
 d-requires c κs = search needs
+
+cast-g : tie.Need-cast-g
+cast-g c = omega (arith, started (c .before .before) .ok)
 
 g-requires : tie.Need-g-requires
 g-requires c κs = search needs
@@ -51,56 +50,66 @@ g-requires c κs = search needs
 low-bits-requires : tie.Need-low-bits-requires
 low-bits-requires c κs = search needs
 
-add-if2 : tie.Need-add-if2
-add-if2 c = search needs
+add-lay-out : tie.Need-add-lay-out
+add-lay-out c = omega arith
 
-mul-if2 : tie.Need-mul-if2
-mul-if2 c = omega (arith, product-le _ (c .low-bits .result + 1) 33 (open-at c .ok .asked .few) (omega arith))
-
-returns-2 : tie.Need-returns-2
-returns-2 c =
-    let o = open-at (c .before) in
-    refused-fourth _ _ _ _ _ (started (c .before .before .before .before .before) .none) (o .ok) (omega (arith, bits-are _ _ _ _ _ _ _ o, c .if2 .taken))
+div-lay-out : tie.Need-div-lay-out
+div-lay-out c = omega arith
 
 cast-lay-out : tie.Need-cast-lay-out
-cast-lay-out c = search needs
+cast-lay-out c = omega arith
 
 lay-out-requires : tie.Need-lay-out-requires
-lay-out-requires c κs = may-lay-out _ _ _ _ _ _ _ (open-at (c .before)) (c .if2 .left)
+lay-out-requires c κs = may-lay-out _ _ _ _ _ _ _ (open-at c)
+
+cast-per : tie.Need-cast-per
+cast-per c = omega arith
+
+sub-used : tie.Need-sub-used
+sub-used c = omega arith
+
+add-used : tie.Need-add-used
+add-used c = omega arith
+
+div-used : tie.Need-div-used
+div-used c = omega arith
 
 add-additions : tie.Need-add-additions
-add-additions c = search needs
+add-additions c = omega arith
 
 cast-additions : tie.Need-cast-additions
-cast-additions c = search needs
+cast-additions c = omega arith
+
+slice-aggregate-additions : tie.Need-slice-aggregate-additions
+slice-aggregate-additions c = search needs
 
 additions-requires : tie.Need-additions-requires
-additions-requires c κs = may-add _ _ _ _ _ _ _ (open-at (c .before .before)) (c .before .if2 .left)
+additions-requires c κs = let built = c .before .before in may-add _ _ _ _ _ _ _ (open-at (built .before)) _ (built .lay-out .ensures) _ refl
+
+slice-aggregate-scan : tie.Need-slice-aggregate-scan
+slice-aggregate-scan c = search needs
 
 scan-requires : tie.Need-scan-requires
 scan-requires c κs =
-    let built = c .before .before in
-    let laid = built .before in
-    let past = laid .before in
-    let o = open-at (past .before) in (
-      laid .lay-out .ensures .sound,
-      may-scan _ _ _ _ _ _ _ o (past .if2 .left) _ _ (laid .lay-out .ensures) (built .additions .ensures),
-      o .ok .short,
-      started (past .before .before .before .before .before) .none,
+    let added = c .before .before .before in
+    let built = added .before .before .before in
+    let known = open-at (built .before) in (
+      may-scan _ _ _ _ _ _ _ known _ (built .lay-out .ensures) _ refl _ (added .additions .ensures .tabled),
+      few-words _ _ _ _ _ _ _ known _ (built .lay-out .ensures) _ refl,
+      started (built .before .before .before .before .before) .none,
     )
 
 same-length : tie.Need-same-length
 same-length c = search needs
 
-returns-3 : tie.Need-returns-3
-returns-3 c =
-    let scanned = c .before .before in
-    let built = scanned .before .before .before in
-    let laid = built .before in
-    let past = laid .before in
-    let readings = past .before .before .before .before .before .before .before .before .before .before in
-    answered _ _ _ _ _ _ _ (open-at (past .before)) (past .if2 .left) _ _ (laid .lay-out .ensures) (built .additions .ensures)
-    (λ j. readings .shared-slice-known2 .given j .fits) (scanned .scan .ensures)
+returns-2 : tie.Need-returns-2
+returns-2 c =
+    let done = c .before .before in
+    let added = done .before .before .before .before in
+    let built = added .before .before .before in
+    let readings = built .before .before .before .before .before .before .before .before .before .before in
+    answered _ _ _ _ _ _ _ (open-at (built .before)) _ (built .lay-out .ensures) _ refl _ (added .additions .ensures .tabled)
+    (λ j. readings .shared-slice-known2 .given j .fits) (done .scan .ensures)
 
 pub search-spec : {M : Type 1} → statement M
 search-spec =
@@ -109,18 +118,23 @@ search-spec =
     checked-search-requires
     begin-requires
     returns
-    cast-m
     d-requires
+    cast-g
     g-requires
     low-bits-requires
-    add-if2
-    mul-if2
-    returns-2
+    add-lay-out
+    div-lay-out
     cast-lay-out
     lay-out-requires
+    cast-per
+    sub-used
+    add-used
+    div-used
     add-additions
     cast-additions
+    slice-aggregate-additions
     additions-requires
+    slice-aggregate-scan
     scan-requires
     same-length
-    returns-3)
+    returns-2)

@@ -13,8 +13,6 @@ use Rattle.fit.proofs.Laws.Places.{in-places}
 use Rattle.fit.proofs.Laws.Answers.{sought-places, places-short, outcome-small}
 use Rattle.fit.proofs.Laws.Refusals.{none-exactly, search-small}
 use Rattle.fit.proofs.Laws.Steps.{walk-short}
-use Rattle.packed.specs.Fourth.{packedRefusal}
-use Rattle.packed.proofs.Laws.Refusing.{packed-small, packed-exactly}
 use Rattle.last.proofs.Laws.Ordinary.{last-short}
 use Rattle.skip.proofs.Laws.Walks.{skip-short}
 use Rattle.maximal.specs.Walk.{maximalNext}
@@ -57,9 +55,7 @@ module _ (delta gamma : ℕ) (x y : List ℕ) (short : length y ≤ maxInput) wh
   plain-short = common-short plainName (windows (length x) (length y)) (λ ok. omega (arith, few-windows ok))
 
   packed-line-short : length (packedLine delta gamma x y) ≤ 22
-  packed-line-short =
-      outcome-short packedName (packedRefusal delta gamma x y) sought (windows (length x) (length y)) (omega (arith, packed-small delta gamma x y))
-      (λ none. let ok = packed-exactly delta gamma x y .0 none .0 in (omega (arith, few-sought ok), omega (arith, few-windows ok)))
+  packed-line-short = common-short packedName (windows (length x) (length y)) (λ ok. omega (arith, few-windows ok))
 
   last-line-short : length (lastLine delta gamma x y) ≤ 20
   last-line-short = common-short lastName _ (λ ok. omega (arith, few-windows ok, last-short delta gamma x y))

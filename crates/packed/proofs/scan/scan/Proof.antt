@@ -1,107 +1,207 @@
--- `packed::scan::scan` meets its contract: it goes along the walk that tries every window, one reading for each.
-use mathlib.Core.Path.{refl}
-use Prim.Native.Nat.{_-_}
+-- `packed::scan::scan` meets its contract: in an array for each number of words up to four, and else in the first words of an array of 16.
+use mathlib.Core.Path.{_≡_, refl, ap, _∙_}
+use mathlib.Core.List.{List, _++_}
+use Prim.Native.Nat.{ℕ, _-_, _≤_}
 use native.Mathlib.Omega.{arith}
+use borrow.Rule.Slice.PartMut.{postOf}
+use lib.ListN.{length, take, replicate, length-replicate, length-append}
+use Rattle.fit.specs.Place.{windows}
+use Rattle.packed.specs.Following.{Follows}
+use Rattle.packed.proofs.Laws.Following.{fresh-part, same-part, may-lead, may-window, scans-all}
 use borrow.Author.Needs.{needs}
-use Rattle.fit.specs.Answer.{lent}
-use Rattle.packed.proofs.Laws.Following.{last-place}
-use Rattle.packed.proofs.Laws.Scanning.{Scanned, scanned-start, scanned-more, scanned-end}
 use Rattle.packed.proofs.scan.scan.Statement.{statement}
 use Rattle.packed.proofs.scan.scan.Tie as tie
 
-abbrev Inv-loop : tie.InvT-loop
-Inv-loop k table recording list₀ count lead last word₀ found₀ s₀ list word found s =
-    Scanned k table recording count lead (lent list₀) (lent list) word s found
+slice-aggregate-read-lead : tie.Need-slice-aggregate-read-lead
+slice-aggregate-read-lead c = search needs
 
-abbrev μ-loop : tie.MeasureT-loop
-μ-loop k table recording list₀ count lead last word₀ found₀ s₀ list word found s = count - s
+read-lead-requires : tie.Need-read-lead-requires
+read-lead-requires c κs = (may-lead _ _ _ _ _ _ (c .before .if1 .taken) (c .before .before .before .before .before .pre .0), refl)
 
-cast-count-windows : tie.Need-cast-count-windows Inv-loop μ-loop
-cast-count-windows c = search needs
+slice-aggregate-read-windows : tie.Need-slice-aggregate-read-windows
+slice-aggregate-read-windows c = search needs
 
-count-windows-requires : tie.Need-count-windows-requires Inv-loop μ-loop
-count-windows-requires c κs = search needs
+read-windows-requires : tie.Need-read-windows-requires
+read-windows-requires c κs =
+    let led = c .before .before .before in
+    let start = led .before .before .before .before .before .before in
+    may-window _ _ _ _ _ _ (led .before .before .if1 .taken) (start .pre .0) _ _ (led .read-lead .ensures) _ (start .pre .2)
 
-sub-lead : tie.Need-sub-lead Inv-loop μ-loop
-sub-lead c = omega arith
+same-length : tie.Need-same-length
+same-length c = search needs
 
-add-last : tie.Need-add-last Inv-loop μ-loop
-add-last c = omega arith
+returns : tie.Need-returns
+returns c =
+    let done = c .before .before .before in
+    let led = done .before .before .before .before in
+    scans-all _ _ _ _ _ _ (led .before .before .if1 .taken) (led .before .before .before .before .before .before .pre .0) _ _ (led .read-lead .ensures) (done .read-windows .ensures)
 
-mul-last : tie.Need-mul-last Inv-loop μ-loop
-mul-last c = omega (arith, last-place _ (c .before .before .before .before .before .before .pre .0))
+slice-aggregate-read-lead-2 : tie.Need-slice-aggregate-read-lead-2
+slice-aggregate-read-lead-2 c = search needs
 
-sub-last : tie.Need-sub-last Inv-loop μ-loop
-sub-last c = omega (arith, last-place _ (c .before .before .before .before .before .before .pre .0))
+read-lead-requires-2 : tie.Need-read-lead-requires-2
+read-lead-requires-2 c κs = (may-lead _ _ _ _ _ _ (c .before .if2 .taken) (c .before .before .before .before .before .before .pre .0), refl)
 
-cast-last : tie.Need-cast-last Inv-loop μ-loop
-cast-last c = omega (arith, last-place _ (c .before .before .before .before .before .before .pre .0))
+slice-aggregate-read-windows-2 : tie.Need-slice-aggregate-read-windows-2
+slice-aggregate-read-windows-2 c = search needs
 
-shl-last : tie.Need-shl-last Inv-loop μ-loop
-shl-last c = omega (arith, last-place _ (c .before .before .before .before .before .before .pre .0))
+read-windows-requires-2 : tie.Need-read-windows-requires-2
+read-windows-requires-2 c κs =
+    let led = c .before .before .before in
+    let start = led .before .before .before .before .before .before .before in
+    may-window _ _ _ _ _ _ (led .before .before .if2 .taken) (start .pre .0) _ _ (led .read-lead2 .ensures) _ (start .pre .2)
 
-read-lead-requires : tie.Need-read-lead-requires Inv-loop μ-loop
-read-lead-requires c κs = let start = c .before .before .before .before .before .before in (start .pre .0, start .pre .1, omega arith)
+same-length-2 : tie.Need-same-length-2
+same-length-2 c = search needs
 
-loop-holds : tie.Need-loop-holds Inv-loop μ-loop
-loop-holds c =
-    let counted = c .before .before .before in
-    let start = counted .before .before .before .before in
-    scanned-start _ _ _ _ _ _ _ _ (start .pre .0) (start .pre .1) (counted .count-windows .ensures) refl (start .pre .2) (start .pre .3) (c .read-lead .ensures)
+returns-2 : tie.Need-returns-2
+returns-2 c =
+    let done = c .before .before .before in
+    let led = done .before .before .before .before in
+    scans-all _ _ _ _ _ _ (led .before .before .if2 .taken) (led .before .before .before .before .before .before .before .pre .0) _ _ (led .read-lead2 .ensures) (done .read-windows2 .ensures)
 
-add-read-one : tie.Need-add-read-one Inv-loop μ-loop
-add-read-one c = omega arith
+slice-aggregate-read-lead-3 : tie.Need-slice-aggregate-read-lead-3
+slice-aggregate-read-lead-3 c = search needs
 
-shared-slice-read-read-one : tie.Need-shared-slice-read-read-one Inv-loop μ-loop
-shared-slice-read-read-one c = omega arith
+read-lead-requires-3 : tie.Need-read-lead-requires-3
+read-lead-requires-3 c κs = (may-lead _ _ _ _ _ _ (c .before .if3 .taken) (c .before .before .before .before .before .before .before .pre .0), refl)
 
-read-one-requires : tie.Need-read-one-requires Inv-loop μ-loop
-read-one-requires c κs = let inv = c .before .before .loop .inv in (inv .sound, inv .addable)
+slice-aggregate-read-windows-3 : tie.Need-slice-aggregate-read-windows-3
+slice-aggregate-read-windows-3 c = search needs
 
-note-requires : tie.Need-note-requires Inv-loop μ-loop
-note-requires c κs = let inv = c .before .before .before .before .loop .inv in omega (arith, inv .along .order, inv .along .room)
+read-windows-requires-3 : tie.Need-read-windows-requires-3
+read-windows-requires-3 c κs =
+    let led = c .before .before .before in
+    let start = led .before .before .before .before .before .before .before .before in
+    may-window _ _ _ _ _ _ (led .before .before .if3 .taken) (start .pre .0) _ _ (led .read-lead3 .ensures) _ (start .pre .2)
 
-add-s : tie.Need-add-s Inv-loop μ-loop
-add-s c = omega arith
+same-length-3 : tie.Need-same-length-3
+same-length-3 c = search needs
 
-loop-less : tie.Need-loop-less Inv-loop μ-loop
-loop-less c = omega arith
+returns-3 : tie.Need-returns-3
+returns-3 c =
+    let done = c .before .before .before in
+    let led = done .before .before .before .before in
+    scans-all _ _ _ _ _ _ (led .before .before .if3 .taken) (led .before .before .before .before .before .before .before .before .pre .0) _ _ (led .read-lead3 .ensures) (done .read-windows3 .ensures)
 
-loop-again : tie.Need-loop-again Inv-loop μ-loop
-loop-again c =
-    let noted = c .before .before in
-    let turned = noted .before .before in
-    let at-test = turned .before .before in
-    scanned-more _ _ _ _ _ (at-test .before .loop .inv) (at-test .loop-test .taken) (turned .read-one .ensures) (noted .note .ensures)
+slice-aggregate-read-lead-4 : tie.Need-slice-aggregate-read-lead-4
+slice-aggregate-read-lead-4 c = search needs
 
-same-length : tie.Need-same-length Inv-loop μ-loop
-same-length c = c .before .loop .inv .along .long
+read-lead-requires-4 : tie.Need-read-lead-requires-4
+read-lead-requires-4 c κs = (may-lead _ _ _ _ _ _ (c .before .if4 .taken) (c .before .before .before .before .before .before .before .before .pre .0), refl)
 
-returns : tie.Need-returns Inv-loop μ-loop
-returns c = scanned-end _ _ _ _ _ (c .before .loop .inv) (c .loop-test .left)
+slice-aggregate-read-windows-4 : tie.Need-slice-aggregate-read-windows-4
+slice-aggregate-read-windows-4 c = search needs
+
+read-windows-requires-4 : tie.Need-read-windows-requires-4
+read-windows-requires-4 c κs =
+    let led = c .before .before .before in
+    let start = led .before .before .before .before .before .before .before .before .before in
+    may-window _ _ _ _ _ _ (led .before .before .if4 .taken) (start .pre .0) _ _ (led .read-lead4 .ensures) _ (start .pre .2)
+
+same-length-4 : tie.Need-same-length-4
+same-length-4 c = search needs
+
+returns-4 : tie.Need-returns-4
+returns-4 c =
+    let done = c .before .before .before in
+    let led = done .before .before .before .before in
+    scans-all _ _ _ _ _ _ (led .before .before .if4 .taken) (led .before .before .before .before .before .before .before .before .before .pre .0) _ _ (led .read-lead4 .ensures) (done .read-windows4 .ensures)
+
+-- ---- more than four: there are as many words as are used, before the first reading
+long : (used top : ℕ) → used ≤ 16 → length (take (used - 0) (replicate {A = ℕ} 16 top)) ≡ used
+long used top h = ap (λ (ws : List ℕ). length ws) (fresh-part used 16 top h) ∙ length-replicate used top
+
+-- and after the lead, where they follow the separate sums
+led : (c : tie.After-read-lead5) → let a = c .before .before .before .before .before .before .before .before .before .args in
+    (c .read-lead5 .result ≡ length (a .recording .now) - windows (a .m) (length (a .recording .now)))
+    × Follows (a .k) (a .used) (a .table .now) (a .recording .now) (c .read-lead5 .last .1 .1 .1 .0) (c .read-lead5 .result)
+led c =
+    let start = c .before .before .before .before .before .before .before .before .before in
+    rw (long (start .args .used) (start .args .k .top) (start .pre .1)) at (c .read-lead5 .ensures)
+
+-- and they are what is lent again
+again : (c : tie.After-read-lead5) → let a = c .before .before .before .before .before .before .before .before .before .args in
+    let words = c .read-lead5 .last .1 .1 .1 .0 in
+    take (a .used - 0) (words ++ postOf 0 (a .used - 0) (replicate {A = ℕ} 16 (a .k .top))) ≡ words
+again c =
+    let a = c .before .before .before .before .before .before .before .before .before .args in
+    same-part (a .used) (c .read-lead5 .last .1 .1 .1 .0) (postOf 0 (a .used - 0) (replicate {A = ℕ} 16 (a .k .top))) (led c .1 .long)
+
+sub-read-lead : tie.Need-sub-read-lead
+sub-read-lead c = search needs
+
+part-words-start : tie.Need-part-words-start
+part-words-start c = search needs
+
+part-words-end : tie.Need-part-words-end
+part-words-end c = search needs
+
+read-lead-requires-5 : tie.Need-read-lead-requires-5
+read-lead-requires-5 c κs =
+    let start = c .before .before .before .before .before .before .before .before in
+    let used = long (start .args .used) (start .args .k .top) (start .pre .1) in
+    (rw used (start .pre .0), rw used (fresh-part (start .args .used) 16 (start .args .k .top) (start .pre .1)))
+
+sub-read-windows : tie.Need-sub-read-windows
+sub-read-windows c = search needs
+
+part-words-start-2 : tie.Need-part-words-start-2
+part-words-start-2 c = search needs
+
+part-words-end-2 : tie.Need-part-words-end-2
+part-words-end-2 c = simp (length-append) (omega (arith, led (c .before) .1 .long))
+
+read-windows-requires-5 : tie.Need-read-windows-requires-5
+read-windows-requires-5 c κs =
+    let at-lead = c .before .before .before in
+    let start = at-lead .before .before .before .before .before .before .before .before .before in
+    rw (again at-lead) (may-window _ _ _ _ _ _ refl (start .pre .0) _ _ (led at-lead) _ (start .pre .2))
+
+same-length-5 : tie.Need-same-length-5
+same-length-5 c = search needs
+
+returns-5 : tie.Need-returns-5
+returns-5 c =
+    let done = c .before .before .before in
+    let at-lead = done .before .before .before .before in
+    scans-all _ _ _ _ _ _ refl (at-lead .before .before .before .before .before .before .before .before .before .pre .0) _ _ (led at-lead) (rw (again at-lead) at (done .read-windows5 .ensures))
 
 pub scan-spec : {M : Type 1} → statement M
 scan-spec =
     tie.close
     (tie.spec
-    Inv-loop
-    μ-loop
-    cast-count-windows
-    count-windows-requires
-    sub-lead
-    add-last
-    mul-last
-    sub-last
-    cast-last
-    shl-last
+    slice-aggregate-read-lead
     read-lead-requires
-    loop-holds
-    add-read-one
-    shared-slice-read-read-one
-    read-one-requires
-    note-requires
-    add-s
-    loop-less
-    loop-again
+    slice-aggregate-read-windows
+    read-windows-requires
     same-length
-    returns)
+    returns
+    slice-aggregate-read-lead-2
+    read-lead-requires-2
+    slice-aggregate-read-windows-2
+    read-windows-requires-2
+    same-length-2
+    returns-2
+    slice-aggregate-read-lead-3
+    read-lead-requires-3
+    slice-aggregate-read-windows-3
+    read-windows-requires-3
+    same-length-3
+    returns-3
+    slice-aggregate-read-lead-4
+    read-lead-requires-4
+    slice-aggregate-read-windows-4
+    read-windows-requires-4
+    same-length-4
+    returns-4
+    sub-read-lead
+    part-words-start
+    part-words-end
+    read-lead-requires-5
+    sub-read-windows
+    part-words-start-2
+    part-words-end-2
+    read-windows-requires-5
+    same-length-5
+    returns-5)

@@ -1,0 +1,3 @@
+pub mod Costing
+pub mod Filling
+pub mod Firm

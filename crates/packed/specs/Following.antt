@@ -1,0 +1,48 @@
+-- What the scan goes by, what holds of its words, and what it answers. Assumes nothing.
+use Prim.Native.Nat.{ℕ, suc, _*_, _≤_, _<_}
+use mathlib.Core.Bool.{true}
+use mathlib.Core.Path.{_≡_}
+use mathlib.Core.List.{List}
+use lib.ListN.{length}
+use Rattle.fit.specs.Reading.{highest}
+use Rattle.fit.specs.Rule.{Rule}
+use Rattle.fit.specs.Place.{windows}
+use Rattle.fit.specs.Refusal.{maxReadings}
+use Rattle.fit.specs.Answer.{Sought, soughtBy, Lent, Answer}
+use Rattle.fit.specs.declared.answer.Search.{Search}
+use Rattle.counters.specs.Words.{Needed, AgreesAcross, SmallAcross}
+use Rattle.counters.specs.Sound.{Sound}
+use Rattle.counters.specs.declared.Masks.{Masks}
+use Rattle.adding.specs.Tables.{rowOf, costIn}
+use Rattle.packed.specs.Separate.{after}
+
+-- the k words of each reading may be added to k words of n counters, of b low bits each
+pub record Addable (b g n k : ℕ) (t : List ℕ) : Type 0 where
+  pub long : suc highest * k ≤ length t
+  pub each : (a : ℕ) → a < suc highest → SmallAcross b g n k (rowOf k t a)
+
+-- what the scan goes by, for m points in k words
+pub record Scannable (masks : Masks) (m k : ℕ) (t y : List ℕ) : Type 0 where
+  pub sound : Sound masks
+  pub some : 1 ≤ m
+  pub needed : Needed (masks .per) m k
+  pub addable : Addable (masks .b) (masks .g) (masks .per) k t
+  pub short : length y ≤ maxReadings
+
+-- "Each step must agree, counter by counter, with m separate sums": the k words after j readings of y. The separate sums go on above the
+-- last point, as the counters do; nothing is asked of them there.
+pub record Follows (masks : Masks) (k : ℕ) (t y words : List ℕ) (j : ℕ) : Type 0 where
+  pub long : length words ≡ k
+  pub agrees : AgreesAcross (masks .b) (masks .g) (masks .per) words (after (masks .g) (costIn (suc (masks .b)) (masks .per) k t) y j)
+
+-- the rule that every reading suits, so that the sum alone decides: one that is not near has put it above g
+abbrev pub summing : (ℕ → ℕ → ℕ) → Rule
+summing cost = record { fit = λ i a. true; cost = cost }
+
+-- what the counter of point m tells of every window: whether its sum, by the table, is at most g
+abbrev pub soughtIn : Masks → ℕ → ℕ → List ℕ → List ℕ → Sought
+soughtIn masks m k t y = soughtBy (summing (costIn (suc (masks .b)) (masks .per) k t)) m (masks .g) y
+
+-- the answer of a scan that has just begun: what is told so, and every window tried
+abbrev pub Scans : Masks → ℕ → ℕ → List ℕ → List ℕ → Lent → Search → Lent → Type 0
+Scans masks m k t y entry r final = Answer 0 (soughtIn masks m k t y) (windows m (length y)) entry r final
