@@ -61,32 +61,34 @@ type Made = (Profile, Vec<u8>);
 type Kind = fn(&mut Draw) -> Made;
 
 /// Kinds that need no 0 for what they try, and whose profiles are accepted.
-const ORDINARY: [Kind; 15] = [
+const ORDINARY: [Kind; 14] = [
     few_readings,
     ends_of_the_readings,
-    sums_about_gamma,
     sums_about_gamma,
     one_point,
     sixty_four_points,
     no_room_for_a_window,
     constant_recording,
-    packed_at_its_limit,
     tolerances_of_any_size,
     smooth_recording,
     repeating_profile,
     no_tolerance,
     block_borders,
     block_borders_all_near,
+    block_borders_all_near,
 ];
-const ZEROS: [Kind; 3] = [zeros_within_tolerance, zeros_alone_decide, contact_lost];
-const REFUSED: [Kind; 3] = [refused, refused, zero_in_the_profile];
+const ZEROS: [Kind; 4] = [zeros_within_tolerance, zeros_within_tolerance, zeros_alone_decide, contact_lost];
+const REFUSED: [Kind; 5] = [refused, refused, refused, zero_in_the_profile, zero_in_the_profile];
 
 /// One case in so many is long: refused, for its length or before that, or as long as is accepted. It is not always the same kind that gives way
 /// to it, since the number of kinds does not divide this one.
-const LONG_EVERY: usize = 199;
+const LONG_EVERY: usize = 200;
+
+/// One case in so many is at an edge of packed's words, one after the other, so that 2,000 cases have them all. None of them is a long one.
+const EDGE_EVERY: usize = 5;
 
 pub fn cases(count: usize, seed: u64) -> impl Iterator<Item = Case> {
-    let sheet = sheet();
+    let (sheet, edges) = (sheet(), edges());
     let kinds = [&ORDINARY[..], &ZEROS, &REFUSED].concat();
     let mut draw = Draw(seed);
     (0..count).map(move |number| {
@@ -94,6 +96,8 @@ pub fn cases(count: usize, seed: u64) -> impl Iterator<Item = Case> {
             sheet[number].clone()
         } else if number % LONG_EVERY == LONG_EVERY - 1 {
             long_recording(&mut draw, number / LONG_EVERY)
+        } else if number % EDGE_EVERY == 0 {
+            at_edge(&mut draw, edges[number / EDGE_EVERY % edges.len()])
         } else {
             kinds[number % kinds.len()](&mut draw)
         };
@@ -156,23 +160,31 @@ fn ends_of_the_readings(draw: &mut Draw) -> Made {
     (profile(draw.points(m, alphabet), delta, gamma), draw.readings(n, alphabet))
 }
 
-/// A window about the points with differences of at most delta, as far as they can go, that sum to the number asked for. It holds no 0,
-/// which would keep it from being a place for another reason than its sum.
-fn window_of_sum(draw: &mut Draw, points: &[u8], delta: u32, sum: u32) -> Vec<u8> {
-    let mut differences = vec![0u32; points.len()];
-    let up: Vec<bool> = points.iter().map(|_| draw.from(0, 1) == 1).collect();
-    for _ in 0..sum {
-        let free: Vec<usize> = (0..points.len())
-            .filter(|&i| {
-                let ends = if up[i] { 255 - points[i] } else { points[i] - 1 };
-                differences[i] < delta && differences[i] < ends as u32
-            })
-            .collect();
-        if free.is_empty() {
-            break;
-        }
-        differences[draw.one_of(&free)] += 1;
+/// Differences that sum to the number asked for, as far as each can go, spread over the points in no order.
+fn differences_of_sum(draw: &mut Draw, most: &[u32], sum: u32) -> Vec<u32> {
+    let mut differences = vec![0; most.len()];
+    let mut left = sum.min(most.iter().sum());
+    while left > 0 {
+        let i = draw.length(0, most.len() - 1);
+        let more = draw.number(0, left.min(most[i] - differences[i]));
+        differences[i] += more;
+        left -= more;
     }
+    differences
+}
+
+/// A window about the points with differences of at most delta, as far as they can go, that sum to the number asked for. Each reading is
+/// above or below its point, but that it goes to the farther end where delta goes beyond the other. It holds no 0, which would keep it from
+/// being a place for another reason than its sum.
+fn window_of_sum(draw: &mut Draw, points: &[u8], delta: u32, sum: u32) -> Vec<u8> {
+    let ends = |x: u8| (x as u32 - 1, 255 - x as u32);
+    let mut is_up = |x: u8| match ends(x) {
+        (below, above) if below.min(above) >= delta => draw.from(0, 1) == 1,
+        (below, above) => above > below,
+    };
+    let up: Vec<bool> = points.iter().map(|&x| is_up(x)).collect();
+    let most: Vec<u32> = points.iter().map(|&x| ends(x).0.max(ends(x).1).min(delta)).collect();
+    let differences = differences_of_sum(draw, &most, sum);
     (0..points.len()).map(|i| if up[i] { points[i] + differences[i] as u8 } else { points[i] - differences[i] as u8 }).collect()
 }
 
@@ -249,25 +261,126 @@ fn constant_recording(draw: &mut Draw) -> Made {
     (profile(points, delta, gamma), vec![reading; n])
 }
 
-/// All counters together take 64 bits exactly, or a little less, or a little more.
-fn packed_at_its_limit(draw: &mut Draw) -> Made {
-    let b = draw.number(0, 10);
-    let least = 64 / (b as usize + 1);
-    let m = (least + draw.length(0, 1)).min(64);
-    let (low, high): (u32, u32) = if b == 0 { (0, 0) } else { (1 << (b - 1), (1 << b) - 1) };
-    let g = draw.one_of(&[low, high, high, low.max(1) - 1, high + 1]);
-    let just = g.div_ceil(m as u32);
-    let delta = draw.one_of(&[just, just, just + 1, 255]).min(255);
-    let alphabet: Vec<u8> = (100..=110).collect();
-    let points = draw.readings(m, &alphabet);
-    let mut recording = Vec::new();
-    for _ in 0..3 {
-        let gap = draw.length(0, 6);
-        recording.extend(draw.readings(gap, &alphabet));
-        let sum = (g + draw.number(0, 2)).max(1) - 1;
-        recording.extend(window_of_sum(draw, &points, delta, sum));
+/// So many points with counters of so many bits, at an edge: the last word of counters is full, lacks one or has only one, or no tolerances
+/// give these points wider counters. (The last is so that every m is there: 2, 3, 38 and 58 have none of the others.)
+#[derive(Clone, Copy)]
+struct Edge {
+    m: usize,
+    width: u32,
+}
+
+impl Edge {
+    fn in_a_word(self) -> usize {
+        reference::counters_in_a_word(self.width as i64) as usize
     }
-    (profile(points, delta, g), recording)
+
+    /// The least g with counters of this width, and the greatest that m points can have; the first is above the second where they have none.
+    fn sums(self) -> (u32, u32) {
+        let least = if self.width == 1 { 0 } else { 1 << (self.width - 2) };
+        (least, ((1 << (self.width - 1)) - 1).min(255 * self.m as u32))
+    }
+
+    fn is_possible(self) -> bool {
+        let (least, greatest) = self.sums();
+        least <= greatest
+    }
+
+    fn is_one(self) -> bool {
+        let wider = Edge { width: self.width + 1, ..self };
+        self.is_possible() && ((self.m + 1) % self.in_a_word() <= 2 || !wider.is_possible())
+    }
+}
+
+/// All edges of 1 to 16 words, for counters of 1 to 15 bits; the widest first, so that even a short run has some of many words.
+fn edges() -> Vec<Edge> {
+    let all = (1..=15).rev().flat_map(|width| (1..=64).rev().map(move |m| Edge { m, width }));
+    all.filter(|edge| edge.is_one()).collect()
+}
+
+fn at_some_edge(draw: &mut Draw) -> Made {
+    let edge = draw.one_of(&edges());
+    at_edge(draw, edge)
+}
+
+/// Windows that are places, and others that are none by their sum or by one reading, mostly at a border of two words. Now and then the
+/// recording has room for one window, or for none.
+fn at_edge(draw: &mut Draw, edge: Edge) -> Made {
+    let sought = profile_at_edge(draw, edge);
+    let mut windows = windows_at_edge(draw, edge, &sought);
+    let first = draw.length(0, windows.len() - 1);
+    windows.rotate_left(first);
+    let mut recording = Vec::new();
+    for window in windows {
+        recording.extend(window);
+        let gap = draw.one_of(&[0, 0, 1, 3, 6]);
+        recording.extend(draw.readings(gap, &sought.points));
+    }
+    if draw.from(0, 9) == 0 {
+        recording.truncate(draw.one_of(&[edge.m - 1, edge.m]));
+    }
+    (sought, recording)
+}
+
+/// g is at either end of what the counters hold, or between.
+fn profile_at_edge(draw: &mut Draw, edge: Edge) -> Profile {
+    let (m, (least, greatest)) = (edge.m as u32, edge.sums());
+    let between = draw.number(least, greatest);
+    let g = draw.one_of(&[least, greatest, between, least.max(greatest / m * m)]);
+    let just = g.div_ceil(m);
+    // a little more, so that the sum can pass g at the last words
+    let more = just + just / 4 + 1;
+    let any = draw.number(just, 255);
+    let delta = draw.one_of(&[just, more, any, 255]).min(255);
+    // where no sum exceeds g, gamma may be anything from there on
+    let gamma = if delta * m == g { draw.one_of(&[g, 16_320]) } else { g };
+    // points with readings at the distance d + 1, as far as there are such
+    let ends = [&ENDS[1..], &ENDS[1..4], &ENDS[4..], &[1, 255]];
+    let inside = [&ANY[100..=110], &ANY[61..=195], &ENDS[1..]];
+    let alphabet = if delta.min(gamma) < 60 { draw.one_of(&inside) } else { draw.one_of(&ends) };
+    profile(draw.readings(edge.m, alphabet), delta, gamma)
+}
+
+/// One of each: a sum within g, g, and g + 1; directly behind a border of two words a reading that is too far, and one by which the sum passes
+/// g; and so directly before it.
+fn windows_at_edge(draw: &mut Draw, edge: Edge, sought: &Profile) -> Vec<Vec<u8>> {
+    let (d, g) = (sought.delta.min(sought.gamma), sought.g() as u32);
+    let within = draw.number(0, g);
+    let mut windows: Vec<Vec<u8>> = [within, g, g + 1].map(|sum| window_of_sum(draw, &sought.points, d, sum)).into();
+    let any = border(draw, edge, 0);
+    // before this point no sum can pass g
+    let late = border(draw, edge, (g / d.max(1)) as usize);
+    for (far, over) in [(any, late), (any - 1, late - 1)] {
+        windows.push(window_far_at(draw, &sought.points, d, g, far.min(edge.m - 1)));
+        windows.push(window_over_at(draw, &sought.points, d, g, over.min(edge.m - 1)));
+    }
+    windows
+}
+
+/// A point, counted from 0, whose counter is the first of a word that is not the first: number `from` or a later one if there is such.
+/// Where one word is enough it is the point that would be the next word's.
+fn border(draw: &mut Draw, edge: Edge, from: usize) -> usize {
+    let last_word = ((edge.m - 1) / edge.in_a_word()).max(1);
+    let least = from.div_ceil(edge.in_a_word()).clamp(1, last_word);
+    edge.in_a_word() * draw.length(least, last_word)
+}
+
+/// A window that would be a place but for the reading at one point, which is one too far, if there is such, or 0.
+fn window_far_at(draw: &mut Draw, points: &[u8], d: u32, g: u32, at: usize) -> Vec<u8> {
+    let sum = draw.number(0, g);
+    let mut window = window_of_sum(draw, points, d, sum);
+    let too_far = ANY.into_iter().find(|y| y.abs_diff(points[at]) as u32 == d + 1);
+    window[at] = draw.one_of(&[0, too_far.unwrap_or(0)]);
+    window
+}
+
+/// A window of near readings whose sum is g + 1, as far as they can go, and g at most without the reading at one point. Behind that point it
+/// is the profile.
+fn window_over_at(draw: &mut Draw, points: &[u8], d: u32, g: u32, at: usize) -> Vec<u8> {
+    let last = draw.number(1, d.clamp(1, g + 1));
+    let mut window = window_of_sum(draw, &points[..at], d, g + 1 - last);
+    window.extend(window_of_sum(draw, &points[at..=at], d, last));
+    window.extend(&points[at + 1..]);
+    window
 }
 
 fn tolerances_of_any_size(draw: &mut Draw) -> Made {
@@ -481,9 +594,11 @@ fn zeros_alone_decide(draw: &mut Draw) -> Made {
     (profile(points, delta, gamma), recording)
 }
 
-/// A case of an ordinary kind, where contact was lost at some readings of its places, directly after them, or elsewhere.
+/// A case of an ordinary kind, or at an edge of packed's words, where contact was lost at some readings of its places, directly after them, or
+/// elsewhere.
 fn contact_lost(draw: &mut Draw) -> Made {
-    let kind = draw.one_of(&ORDINARY);
+    let ordinary: Kind = draw.one_of(&ORDINARY);
+    let kind = draw.one_of(&[ordinary, ordinary, ordinary, at_some_edge]);
     let (profile, mut recording) = kind(draw);
     let places: Vec<usize> = reference::places(&profile, &recording).into_iter().map(|s| s as usize).collect();
     lose_contact(draw, profile.points.len(), &places, &mut recording);
@@ -507,7 +622,7 @@ fn with_bad_or_good_tolerances(draw: &mut Draw, points: Vec<u8>) -> Made {
     (profile(points, delta, gamma), draw.readings(n, &ANY))
 }
 
-/// Refusals 1, 7, 2 and 4, alone and together, and the values next to them that are accepted.
+/// Refusals 1, 7 and 2, alone and together, and the values next to them that are accepted.
 fn refused(draw: &mut Draw) -> Made {
     let too_many = draw.one_of(&TOO_MANY);
     let m = draw.one_of(&[0, too_many, too_many, 1, 3, 64]);
@@ -515,7 +630,7 @@ fn refused(draw: &mut Draw) -> Made {
     with_bad_or_good_tolerances(draw, points)
 }
 
-/// Refusal 8, alone and together with 7, 2 and 4.
+/// Refusal 8, alone and together with 7 and 2.
 fn zero_in_the_profile(draw: &mut Draw) -> Made {
     let too_many = draw.one_of(&TOO_MANY);
     let m = draw.one_of(&[too_many, too_many, 1, 2, 3, 64, 64]);
@@ -562,7 +677,7 @@ fn long_recording(draw: &mut Draw, turn: usize) -> Made {
 mod coverage {
     use super::*;
     use crate::frames;
-    use crate::reference::{after_check, counter_width, first, last_reading, places, walk};
+    use crate::reference::{after_check, counter_width, counters_in_a_word, first, last_reading, places, walk, words};
     use crate::reference::{refusal_of_profile, refusal_of_search, First, Searcher};
 
     /// The sum of differences at a window, if they are all at most delta; by difference alone, whether it holds a 0 or not.
@@ -674,7 +789,8 @@ mod coverage {
             ("zero: spoils a window, delta from its point", any(&|w| w.zeros.iter().any(|&i| points[i] as u32 == delta))),
             ("zero: spoils a window, 64 points", any(&|_| m == 64)),
             ("zero: spoils a window, greatest tolerances", any(&|_| delta == 255 && gamma == 16_320)),
-            ("zero: spoils a window, packed", any(&|_| refusal_of_search(Searcher::Packed, &case.profile, &case.recording) == 0)),
+            ("zero: spoils a window, one word of counters", any(&|_| words(&case.profile) == 1)),
+            ("zero: spoils a window, several words of counters", any(&|_| words(&case.profile) > 1)),
             ("zero: spoils a window before the first place", any(&|w| found.first() > Some(&w.s))),
             ("zero: spoils a window, and there is no place", any(&|_| found.is_empty())),
             ("zero: spoils the first window of a block", any(&|w| first_of_block(case, w.s))),
@@ -761,7 +877,7 @@ mod coverage {
         let (m, zero) = (case.profile.points.len(), case.profile.points.contains(&0));
         let (delta, gamma) = (case.profile.delta, case.profile.gamma);
         let [alone, or_2, or_3, or_both] = later_refusals(case);
-        let refusal = refusal_of_search(Searcher::Packed, &case.profile, &case.recording);
+        let refusal = refusal_of_search(&case.profile, &case.recording);
         let expected = [m == 0, m > 64, (1..=64).contains(&m) && zero];
         assert_eq!([1, 7, 8].map(|number| refusal == number), expected, "{}", frames::describe(case));
         let seven = refusal == 7 && !zero;
@@ -776,7 +892,6 @@ mod coverage {
             ("refusal 2, 64 points", refusal == 2 && m == 64 && or_2),
             ("refusal 2, delta 256 alone", refusal == 2 && delta == 256 && gamma <= 16_320),
             ("refusal 2, gamma 16,321 alone", refusal == 2 && delta <= 255 && gamma == 16_321),
-            ("refusal 4", refusal == 4),
             ("no refusal, 64 points", refusal == 0 && m == 64),
             ("long: refusal 1 before 3", refusal == 1 && or_3),
             ("long: refusal 1 before 2 and 3", refusal == 1 && or_both),
@@ -795,7 +910,6 @@ mod coverage {
         let [alone, or_2, or_3, or_both] = later_refusals(case);
         let refusal = refusal_of_profile(&case.profile);
         let (seven, eight) = (refusal == 7 && !zeros.is_empty(), refusal == 8);
-        let wide = m as i64 * counter_width(case.profile.g()) > 64;
         vec![
             ("refusal 8, first point", eight && m > 1 && zeros == [0] && alone),
             ("refusal 8, inner point", eight && one_inside(&zeros, m) && alone),
@@ -805,7 +919,6 @@ mod coverage {
             ("refusal 8, 64 points", eight && m == 64 && alone),
             ("refusal 8 before 2", eight && or_2),
             ("refusal 8 before 2, 64 points", eight && m == 64 && or_2),
-            ("refusal 8 before 4", eight && alone && wide),
             ("refusal 7 before 8, 65 points", seven && m == 65 && alone),
             ("refusal 7 before 8, more points", seven && m > 65 && alone),
             ("refusal 7 before 8 and 2", seven && or_2),
@@ -841,6 +954,58 @@ mod coverage {
         ]
     }
 
+    /// Why a window is no place, if it is by one point alone.
+    #[derive(PartialEq)]
+    enum Fall {
+        /// its reading is too far, and the others sum to g at most
+        Far,
+        /// so, and the reading is 0
+        Lost,
+        /// all are near, and there the sum passes g
+        Over,
+    }
+
+    /// The point, counted from 0, by which a window is no place.
+    fn fall(profile: &Profile, window: &[u8]) -> Option<(Fall, usize)> {
+        let (d, g) = (profile.delta.min(profile.gamma), profile.g() as u32);
+        let difference = |i: usize| window[i].abs_diff(profile.points[i]) as u32;
+        let is_near = |i: usize| window[i] != 0 && difference(i) <= d;
+        let sum_to = |i: usize| (0..=i).filter(|&i| is_near(i)).map(difference).sum::<u32>();
+        let last = window.len() - 1;
+        let mut far = (0..=last).filter(|&i| !is_near(i));
+        match (far.next(), far.next()) {
+            (None, _) => (0..=last).find(|&i| sum_to(i) > g).map(|i| (Fall::Over, i)),
+            (Some(i), None) if sum_to(last) <= g => Some((if window[i] == 0 { Fall::Lost } else { Fall::Far }, i)),
+            _ => None,
+        }
+    }
+
+    /// What is tried with so many words of counters as an accepted case has. k counters go into a word, so that the counter of point i, counted
+    /// from 0, is number i % k of word i / k.
+    fn word_situations(case: &Case) -> Vec<(&'static str, bool)> {
+        let (m, g) = (case.profile.points.len(), case.profile.g());
+        let k = counters_in_a_word(counter_width(g)) as usize;
+        let sums: Vec<i64> = near_sums(case).into_iter().map(|(_, sum)| sum as i64).collect();
+        let falls: Vec<(Fall, usize)> = windows(case).filter_map(|(_, window)| fall(&case.profile, window)).collect();
+        let begins = |i: usize| i > 0 && i % k == 0;
+        let first = |why: Fall| falls.iter().any(|(fall, i)| *fall == why && begins(*i));
+        let last = |why: Fall| falls.iter().any(|(fall, i)| *fall == why && i + 1 < m && begins(i + 1));
+        vec![
+            ("a place", sums.iter().any(|&sum| sum <= g)),
+            ("sum g", sums.contains(&g)),
+            ("sum g + 1", sums.contains(&(g + 1))),
+            ("the last word is full", m % k == 0),
+            ("the last word lacks a counter", (m + 1) % k == 0),
+            ("the last word has one counter", m % k == 1),
+            ("too far at a later word's first counter", first(Fall::Far)),
+            ("lost contact at a later word's first counter", first(Fall::Lost)),
+            ("the sum passes g at a later word's first counter", first(Fall::Over)),
+            ("too far at the last counter before another word", last(Fall::Far)),
+            ("lost contact at the last counter before another word", last(Fall::Lost)),
+            ("the sum passes g at the last counter before another word", last(Fall::Over)),
+        ]
+    }
+
     /// What the default run must contain: each line is a situation, and at least so many cases must be in it.
     #[test]
     fn the_default_run_has_every_situation() {
@@ -868,6 +1033,8 @@ mod coverage {
             meets("n is 0", n == 0);
             meets("n is m - 1", n + 1 == m);
             meets("n is m", n == m);
+            meets("n is m - 1, several words of counters", n + 1 == m && words(&case.profile) > 1);
+            meets("n is m, several words of counters", n == m && words(&case.profile) > 1);
             meets("no list", case.room == 0 && !found.is_empty());
             meets("list too short", case.room > 0 && case.room < found.len());
             meets("list just long enough", case.room > 0 && case.room == found.len());
@@ -903,6 +1070,30 @@ mod coverage {
             };
             assert!(count >= least, "{situation}: {count}");
         }
+    }
+
+    /// The default run must have each number of words, and all that is tried with it in three cases or more. One word has no border.
+    #[test]
+    fn the_default_run_has_every_number_of_words() {
+        let mut met = std::collections::BTreeMap::new();
+        let mut shapes = std::collections::BTreeSet::new();
+        for case in cases(2_000, 1).filter(|case| refusal_of_search(&case.profile, &case.recording) == 0) {
+            shapes.insert((case.profile.points.len(), counter_width(case.profile.g())));
+            for (situation, yes) in word_situations(&case) {
+                *met.entry((words(&case.profile), situation)).or_insert(0) += yes as usize;
+            }
+        }
+        for ((words, situation), count) in &met {
+            println!("{count:5} {words:2} words: {situation}");
+            let least = if *words == 1 && situation.contains("word") { 0 } else { 3 };
+            assert!(*count >= least, "{words} words, {situation}: {count}");
+        }
+        let numbers = met.into_keys().map(|(words, _)| words);
+        assert_eq!(numbers.collect::<std::collections::BTreeSet<_>>(), (1..=16).collect());
+        assert!(edges().iter().all(|edge| shapes.contains(&(edge.m, edge.width as i64))));
+        // 5 points have counters of 12 bits at most, since they sum to 1,275 at most, and five of these fit a word; 6 need not fit
+        let several = shapes.into_iter().filter(|&(m, width)| m as i64 > counters_in_a_word(width)).map(|(m, _)| m);
+        assert_eq!(several.collect::<std::collections::BTreeSet<_>>(), (6..=64).collect());
     }
 
     #[test]
