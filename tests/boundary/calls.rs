@@ -33,8 +33,8 @@ fn search(name: &str, ask: Searcher, tried: usize) {
 }
 
 /// Calls that are refused by 1, 7, 8, 2 or 3, the first that applies in this order, also by numbers that a narrower type would cut to allowed
-/// ones or to no points. 64 points with delta 1 and gamma 2 would be refused by packed's 4 too, and 8 comes before it.
-fn refusals(many: &[u8]) -> [(u32, &[u8], u32, u32, &[u8]); 20] {
+/// ones or to no points.
+fn refusals(many: &[u8]) -> [(u32, &[u8], u32, u32, &[u8]); 21] {
     [
         (1, &P[..0], 1, 2, &L),
         (1, &P[..0], 256, 16_321, many),
@@ -56,6 +56,7 @@ fn refusals(many: &[u8]) -> [(u32, &[u8], u32, u32, &[u8]); 20] {
         (2, &P, 1, 16_321, &L),
         (2, &P, 1, 65_538, &L),
         (3, &P, 1, 2, many),
+        (3, &many[..64], 255, 16_320, many),
     ]
 }
 
@@ -105,6 +106,28 @@ fn search_lost(name: &str, ask: Searcher, tried: usize, tried_widest: usize) {
     }
 }
 
+/// Profiles whose counters packed has in one word of 64 bits, in two (80 bits, as E10's second input) and in 16, which is the most: every
+/// searcher accepts them all. All readings are near, so that only the sums decide; in the last search one reading is a 0.
+fn search_words(name: &str, ask: Searcher, tried_lost: usize) {
+    let found = |total, tried| Search { refusal: 0, total, tried };
+    let mut list = [9; 8];
+    let pairs = [1, 2].repeat(10);
+    assert_eq!(ask(&[1; 16], 1, 7, &pairs, &mut list), found(0, 5), "{name}");
+    assert_eq!(list, [9; 8], "{name}");
+    assert_eq!(ask(&[1; 16], 1, 8, &pairs, &mut list), found(5, 5), "{name}");
+    assert_eq!(list, [0, 1, 2, 3, 4, 9, 9, 9], "{name}");
+    // 64 differences of 128 are 8,192, and counters of 15 bits; one of them is 127 in the windows from 37 to 100
+    let mut high = [129; 200];
+    high[100] = 128;
+    assert_eq!(ask(&[1; 64], 128, 8_191, &high, &mut list), found(64, 137), "{name}");
+    assert_eq!(list, [37, 38, 39, 40, 41, 42, 43, 44], "{name}");
+    assert_eq!(ask(&[1; 64], 128, 8_192, &high, &mut list), found(137, 137), "{name}");
+    assert_eq!(list, [0, 1, 2, 3, 4, 5, 6, 7], "{name}");
+    high[70] = 0;
+    assert_eq!(ask(&[1; 64], 255, 16_320, &high, &mut list), found(73, tried_lost), "{name}");
+    assert_eq!(list, [0, 1, 2, 3, 4, 5, 6, 71], "{name}");
+}
+
 /// E4; E4 from position 1 on and E5 from 2 on, where place and count differ; a place at the last window, and none with one reading less; a
 /// place and a count that 16 bits do not hold; readings of 0.
 fn first() {
@@ -152,21 +175,19 @@ fn question_refused(ask: fn(&[u8], u32, u32) -> Jump, last: u32, many: &[u8]) {
 
 fn main() {
     let many = vec![1; 1_000_001];
-    for (name, ask, tried, tried_lost, tried_widest) in [
-        ("plain", jilbaroof::plain as Searcher, 12, 15, 4),
-        ("packed", jilbaroof::packed, 12, 15, 4),
-        ("last", jilbaroof::last, 5, 5, 2),
-        ("skip", jilbaroof::skip, 6, 9, 2),
-        ("maximal", jilbaroof::maximal, 5, 5, 3),
+    for (name, ask, tried, tried_lost, tried_widest, tried_words) in [
+        ("plain", jilbaroof::plain as Searcher, 12, 15, 4, 137),
+        ("packed", jilbaroof::packed, 12, 15, 4, 137),
+        ("last", jilbaroof::last, 5, 5, 2, 73),
+        ("skip", jilbaroof::skip, 6, 9, 2, 137),
+        ("maximal", jilbaroof::maximal, 5, 5, 3, 73),
     ] {
         search(name, ask, tried);
         search_lost(name, ask, tried_lost, tried_widest);
+        search_words(name, ask, tried_words);
         search_refused(name, ask, &many);
         search_limits(name, ask, &many);
     }
-    assert_eq!(jilbaroof::packed(&[1; 16], 1, 7, &L, &mut []).refusal, 0);
-    assert_eq!(jilbaroof::packed(&[1; 16], 1, 8, &L, &mut []), Search { refusal: 4, total: 0, tried: 0 });
-    assert_eq!(jilbaroof::packed(&[1; 16], 1, 8, &many, &mut []).refusal, 3);
 
     first();
     first_limits(&many);
