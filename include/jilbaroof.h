@@ -21,10 +21,9 @@
  *   8  the profile holds a 0, which says that contact was lost: every point must be a pressure, 1 to 255
  *   2  delta is above 255, or gamma above 16,320
  *   3  the recording has more than 1,000,000 readings (searchers and jilbaroof_first)
- *   4  the counters do not fit one word: m times their width exceeds 64 (jilbaroof_packed). The width is 1 + b, b the least with 2^b
- *      above the smaller of gamma and m times d, d the smaller of delta and gamma
  *   6  the point number is 0 or above m (jilbaroof_mismatch)
- * (5 belongs to the program `places` and is never given here.)
+ * (4 is no longer given: it was jilbaroof_packed's, for counters that do not fit one word. The number is not used again. 5 belongs to the
+ * program `places` and is never given here.)
  */
 #ifndef JILBAROOF_H
 #define JILBAROOF_H
@@ -64,8 +63,10 @@ typedef struct {
 jilbaroof_search jilbaroof_plain(const uint8_t *points, size_t m, uint32_t delta, uint32_t gamma,
                                  const uint8_t *recording, size_t n, uint32_t *list, size_t room);
 
-/* Keeps a counter for each point, side by side in one 64-bit word, and reads each reading once, whatever came before; so its time hardly
- * depends on the readings, but for the places that it finds and lists. May refuse by 4. */
+/* Keeps a counter for each point, side by side in as many 64-bit words as they need, 16 at most, and reads each reading once, whatever came
+ * before; so its time hardly depends on the readings, but for the places that it finds and lists. The more words, the longer it takes. A
+ * counter has 1 + b bits, b the least with 2^b above the smaller of gamma and m times d, d the smaller of delta and gamma, and none is
+ * split over two words. */
 jilbaroof_search jilbaroof_packed(const uint8_t *points, size_t m, uint32_t delta, uint32_t gamma,
                                   const uint8_t *recording, size_t n, uint32_t *list, size_t room);
 

@@ -15,10 +15,10 @@
 //! - 8: the profile holds a 0, which says that contact was lost: every point must be a pressure, 1 to 255
 //! - 2: delta is above 255, or gamma above 16,320
 //! - 3: the recording has more than 1,000,000 readings (searchers and `first`)
-//! - 4: the counters do not fit one word (`packed`)
 //! - 6: there is no point of that number (`mismatch`)
 //!
-//! (5 belongs to the program `places` and is never given here.)
+//! (4 is no longer given: it was `packed`'s, for counters that do not fit one word. The number is not used again. 5 belongs to the program
+//! `places` and is never given here.)
 
 // as a module it may have functions that its crate does not use
 #![allow(dead_code)]
@@ -121,7 +121,7 @@ searcher! {
     plain, jilbaroof_plain
 }
 searcher! {
-    /// Keeps a counter for each point in one word. Refused by 4 where m times the counter width exceeds 64.
+    /// Keeps a counter for each point, side by side in as many 64-bit words as they need, 16 at most, and reads each reading once.
     packed, jilbaroof_packed
 }
 searcher! {
