@@ -13,12 +13,12 @@ pub struct Row<'a> {
 }
 
 impl Row<'_> {
-    /// Whether refusal 4 is due: m counters of 1 + b bits, b the least with 2^b > g, exceed a word.
-    pub fn too_wide(&self) -> bool {
+    /// How many words packed's counters need: each has 1 + b bits, b the least with 2^b > g, and none is split over two words.
+    pub fn words(&self) -> u32 {
         let m = self.points.len() as u32;
         let g = self.gamma.min(m * self.delta.min(self.gamma));
         let b = (0..).find(|b| 1 << b > g).unwrap();
-        m * (1 + b) > 64
+        m.div_ceil(64 / (1 + b))
     }
 }
 
@@ -36,14 +36,16 @@ impl Recordings {
     pub fn rows(&self) -> Vec<Row<'_>> {
         let mut rows = Vec::new();
         for (name, recording) in [("random", &self.random), ("smooth", &self.smooth)] {
+            // the profile is a window of the recording, so there is a place; neither recording has a 0 there, which would be refused
+            let row = |m: usize, delta, gamma| {
+                let points = recording[READINGS / 2..READINGS / 2 + m].to_vec();
+                Row { name, points, delta, gamma, recording }
+            };
             for (delta, small) in [(5, false), (5, true), (20, false), (20, true)] {
-                for m in [8, 10, 20, 64] {
-                    // the profile is a window of the recording, so there is a place; neither recording has a 0 there, which would be refused
-                    let points = recording[READINGS / 2..READINGS / 2 + m].to_vec();
-                    let gamma = if small { 2 * m as u32 } else { WIDE };
-                    rows.push(Row { name, points, delta, gamma, recording });
-                }
+                rows.extend([8, 10, 20, 64].map(|m| row(m, delta, if small { 2 * m as u32 } else { WIDE })));
             }
+            // two words of counters, which they fill; and 16, the most there are, where readings are far, and where sums alone decide
+            rows.extend([row(20, 5, 20), row(64, 160, 8_192), row(64, 255, 4_096)]);
         }
         for m in [8, 20, 64] {
             rows.extend(self.worst_cases(m));
