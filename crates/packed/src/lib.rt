@@ -28,6 +28,8 @@ pub fn search(
         (windows (length (now (points .entry))) (length (now (recording .entry))))
         (lent (now (list .entry))) r (lent (now (list .exit))) ⌝ }
 {
+    // first of all: the compiler would lose a register if it took this much room later (docs/DECISIONS.md, What is compiled)
+    let mut table = [0u64; TABLE_WORDS];
     let checked = fit::checked_search(points, delta, gamma, recording);
     let begun = fit::begin(checked.refusal);
     if begun.refusal != 0 {
@@ -41,7 +43,6 @@ pub fn search(
     let k = counters::lay_out(b, WORD_BITS / (b + 1), g as u64);
     let per = k.per as usize;
     let used = (m + (per - 1)) / per;
-    let mut table = [0u64; TABLE_WORDS];
     adding::additions(points, per, used, b + 1, d, g as u64, &mut table);
     scan::scan(k, m, used, &table, recording, list, begun)
 }
