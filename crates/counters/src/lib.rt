@@ -21,15 +21,12 @@ pub struct Masks {
     pub enter: u64,
 }
 
-// How many low bits a counter has: the least b with 2^b > g.
+// How many low bits a counter has: the least b with 2^b > g, which is the bit length of g. A counter is one bit wider.
+// Of g = 0 all 32 bits are leading zeros, so it has no low bit.
 pub fn low_bits(g: u32) -> u32
     ensures { λ r. ⌜ (r ≡ lowBits g) × (r ≤ 32) ⌝ }
 {
-    let mut b: u32 = 0;
-    while (1u64 << b) <= g as u64 {
-        b += 1;
-    }
-    b
+    32 - u32::leading_zeros(g)
 }
 
 // m counters of l bits, each at v.

@@ -1,15 +1,16 @@
--- Laws of the width: there is a least number of low bits, `lowBits` is it, and no second one is. Assumes nothing.
-use mathlib.Core.Path.{_≡_, _∙_}
+-- Laws of the width: there is a least number of low bits, `lowBits` is it, and no second one is; it is the bit length. Assumes nothing.
+use mathlib.Core.Path.{_≡_, refl, _∙_}
 use mathlib.Core.Logic.{_⊎_, inl, inr, ⊎-elim}
-use Prim.Native.Nat.{ℕ, zero, suc, _+_, _*_, _%_, _^_, _≤_, _<_}
+use Prim.Native.Nat.{ℕ, zero, suc, _+_, _-_, _*_, _%_, _^_, _≤_, _<_}
 use native.Mathlib.Nat.{le-antisymm, lt-of-not-le, add-zero, zero-add, add-suc, suc-add}
 use native.Mathlib.Decide.{decLe}
 use native.Mathlib.Numerals.{add-one}
 use native.Mathlib.Omega.{arith}
 use lib.Dec.{lit<}
 use lib.Pow.{pow-mono, shl-exact}
+use lib.Count.{leadingZeros, leading-length}
 use borrow.Author.Tests.{lt-ltb, le-ltb}
-use Rattle.counters.specs.Width.{Least, leastFrom, lowBits}
+use Rattle.counters.specs.Width.{Least, leastFrom, lowBits, widthOf}
 
 pub le-or-lt : (m n : ℕ) → (m ≤ n) ⊎ (n < m)
 le-or-lt m n = by-dec (decLe m n)
@@ -23,7 +24,7 @@ pub no-second-least : (g b b′ : ℕ) → Least g b → Least g b′ → b ≡ 
 no-second-least g b b′ h h′ = le-antisymm (h .least b′ (h′ .room)) (h′ .least b (h .room))
 
 -- where 2^b is not above g, no power up to b is
-pub least-more : (g b k : ℕ) → 2 ^ b ≤ g → g < 2 ^ k → b + 1 ≤ k
+least-more : (g b k : ℕ) → 2 ^ b ≤ g → g < 2 ^ k → b + 1 ≤ k
 least-more g b k h l = ⊎-elim (λ (r : k ≤ b). absurd (omega (arith, pow-mono {i = k} {j = b} r))) (λ (r : b < k). omega arith) (le-or-lt k b)
 
 -- the search for it: nothing below b serves, and k steps more are enough
@@ -55,15 +56,25 @@ room-next g b h = rw (add-one b) (omega (arith, pow-mono {i = 0} {j = b} (omega 
 pub one-shifted : (b : ℕ) → b ≤ 63 → (1 * 2 ^ b) % 2 ^ 64 ≡ 2 ^ b
 one-shifted b h = shl-exact 1 b 64 (lit< tt) (omega arith) ∙ omega arith
 
--- ---- the plain search for the power: no number below b serves
-pub record Passed (g b : ℕ) : Type 0 where
-  pub least : (k : ℕ) → g < 2 ^ k → b ≤ k
+-- ---- the bit length: what the leading zeros leave of w bits
 
-pub passed-start : (g : ℕ) → Passed g 0
-passed-start g = record { least = λ k h. omega arith }
+-- the bit length b of g has 2^b at most 2 g + 1 (for g = 0 too, where b is 0), so no shorter number serves
+shortest : (g b k : ℕ) → 2 ^ b ≤ 2 * g + 1 → g < 2 ^ k → b ≤ k
+shortest g zero k h l = omega arith
+shortest g (suc b) k h l = omega (arith, least-more g b k (omega (arith, h)) l)
 
-pub passed-step : (g b : ℕ) → b ≤ 63 → (1 * 2 ^ b) % 2 ^ 64 ≤ g → Passed g (b + 1)
-passed-step g b h t = record { least = λ k r. least-more g b k (rw (one-shifted b h) at t) r }
+-- of w bits, those that are no leading zeros are the low bits
+pub low-bits-length : (w g : ℕ) → g < 2 ^ w → lowBits g + leadingZeros w g ≡ w
+low-bits-length w g h =
+    let t = leading-length w g h in
+    let least : Least g (t .0) = record { room = t .2; least = λ k l. shortest g (t .0) k (t .3) l } in
+    omega (arith, is-low-bits g (t .0) least, t .1)
 
-pub passed-end : (g b : ℕ) → b ≤ 63 → g < (1 * 2 ^ b) % 2 ^ 64 → Passed g b → b ≡ lowBits g
-passed-end g b h t p = is-low-bits g b (record { room = rw (one-shifted b h) at t; least = p .least })
+-- "one more than the bit length of g"
+pub width-length : (w g : ℕ) → g < 2 ^ w → widthOf g ≡ (w - leadingZeros w g) + 1
+width-length w g h = omega (arith, low-bits-length w g h)
+
+-- g = 0 has no low bit, its counter is the top bit alone; and a power of 2 takes one bit more than the number before it
+pub width-edges : (widthOf 0 ≡ 1) × (widthOf 3 ≡ 3) × (widthOf 4 ≡ 4)
+unfolding lowBits leastFrom
+width-edges = (refl, refl, refl)
