@@ -1,13 +1,15 @@
-// The boundary to C and Rust: a function for each searcher and each question, with the contract of what it calls; `first` is told in numbers.
+// The boundary to C and Rust: a function for each searcher and each question, with the contract of what it calls; `first` and `check` are told in numbers.
 // include/jilbaroof.h declares these functions for C, rust/jilbaroof.rs wraps them for Rust.
 use first::Flat;
 use fit::Search;
+use questions::FlatVerdict;
 use questions::Jump;
 ghost use mathlib.Core.Path.{_≡_};
 ghost use Prim.Native.Nat.{_-_};
 ghost use lib.ListN.{length};
 ghost use Rattle.fit.specs.Place.{fitOf, dOf, windows};
 ghost use Rattle.fit.specs.Refusal.{questionRefusal, searchRefusal};
+ghost use Rattle.fit.specs.Verdict.{verdictOf};
 ghost use Rattle.fit.specs.Answer.{soughtOf, lent, Answers};
 ghost use Rattle.last.specs.Walk.{lastWalkOf};
 ghost use Rattle.first.specs.First.{firstAnswer};
@@ -15,6 +17,7 @@ ghost use Rattle.skip.specs.Walk.{skipWalk};
 ghost use Rattle.maximal.specs.Walk.{maximalWalk};
 ghost use Rattle.jumps.specs.Jumps.{lastJump, nextJump, afterJump, mismatchJump, fullJump};
 ghost use Rattle.questions.specs.Asking.{jumpAnswer, mismatchRefusal};
+ghost use Rattle.questions.specs.Judging.{checkRefusal, checkAnswer};
 
 // plain: every window is tried.
 #[no_mangle]
@@ -156,4 +159,21 @@ pub extern "C" fn jilbaroof_mismatch(points: &[u8], delta: u32, gamma: u32, p: u
         r ≡ jumpAnswer (mismatchRefusal delta gamma (now (points .entry)) p) (mismatchJump (dOf delta gamma) (now (points .entry)) (p - 1)) ⌝ }
 {
     questions::mismatch(points, delta, gamma, p)
+}
+
+// What the check of the window at s answers, in numbers.
+#[no_mangle]
+pub extern "C" fn jilbaroof_check(
+    points: &[u8],
+    delta: u32,
+    gamma: u32,
+    recording: &[u8],
+    s: usize,
+) -> FlatVerdict
+    ensures { λ r. ⌜
+        r ≡ checkAnswer (checkRefusal delta gamma (now (points .entry)) (now (recording .entry)) s)
+        (verdictOf delta gamma (now (points .entry)) (now (recording .entry)) s) ⌝ }
+{
+    let answer = questions::check(points, delta, gamma, recording, s);
+    questions::told(answer)
 }

@@ -65,7 +65,7 @@ fn over_spans<'a>(
     requires { ⌜ Walkable (now spans) (now table) m gamma after (now recording) ⌝ }
     ensures { λ r. ⌜
         toldOf r ≡ firstAnswer 0 (soughtBy (ruleIn (now (spans .entry))) m gamma (now (recording .entry)))
-        (walkIn (now (spans .entry)) m gamma after (now (recording .entry))) ⌝ }
+        (walkIn (now (spans .entry)) m after (now (recording .entry))) ⌝ }
 {
     let mut tried = 0;
     let mut q = last::tried_from(table, recording, m - 1);

@@ -7,7 +7,8 @@ use Rattle.fit.specs.Reading.{near}
 use Rattle.fit.specs.Rule.{allFit, sumCost, isPlaceBy}
 use Rattle.fit.specs.Place.{isPlace}
 use Rattle.fit.specs.Listing.{upTo, places}
-use Rattle.fit.specs.Refusal.{searchRefusal}
+use Rattle.fit.specs.Refusal.{orElse, searchRefusal}
+use Rattle.fit.specs.Verdict.{farAt, fitsWith, overWith, brokenAt, judged, verdictBy, verdictOf}
 use Rattle.fit.specs.Answer.{soughtOf, lent, filled}
 
 -- a reading that differs by d is near, one that differs by d + 1 is not; 1 is the least that can be, and 0 is near to no point
@@ -39,3 +40,14 @@ eight-edges = (refl, refl)
 pub refusal-edges : filled (searchRefusal 256 0 [] []) (soughtOf 256 0 [] (7 ∷ [])) (lent (5 ∷ [])) ≡ lent (5 ∷ [])
 unfolding searchRefusal filled
 refusal-edges = refl
+
+-- what the check answers: a sum of gamma and of gamma + 1; the first far point, though the sum is exceeded before it, and though delta would allow it
+-- and gamma alone does not; a 0
+pub verdict-edges :
+    (verdictOf 1 2 (40 ∷ 42 ∷ 44 ∷ []) (41 ∷ 43 ∷ 44 ∷ []) 0 ≡ fitsWith 2)
+    × (verdictOf 1 2 (40 ∷ 42 ∷ 44 ∷ []) (41 ∷ 43 ∷ 45 ∷ []) 0 ≡ overWith 3)
+    × (verdictOf 5 5 (10 ∷ 10 ∷ 10 ∷ 10 ∷ []) (15 ∷ 15 ∷ 16 ∷ 16 ∷ []) 0 ≡ farAt 3)
+    × (verdictOf 9 2 (40 ∷ 42 ∷ 44 ∷ []) (40 ∷ 45 ∷ 44 ∷ []) 0 ≡ farAt 2)
+    × (verdictOf 9 9 (1 ∷ 1 ∷ []) (7 ∷ 1 ∷ 0 ∷ []) 1 ≡ farAt 2)
+unfolding verdictBy judged brokenAt orElse sumCost near
+verdict-edges = (refl, refl, refl, refl, refl)

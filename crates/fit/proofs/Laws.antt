@@ -5,6 +5,7 @@ pub mod Risings
 pub mod Rules
 pub mod Places
 pub mod Chains
+pub mod Verdicts
 pub mod Zeros
 pub mod Refusals
 pub mod Shorts

@@ -6,6 +6,7 @@ pub mod Listing
 pub mod Walk
 pub mod Chain
 pub mod Refusal
+pub mod Verdict
 pub mod Made
 pub mod Spans
 pub mod Answer

@@ -34,6 +34,10 @@ isPlaceBy r m gamma y s =
 abbrev pub nearBy : Rule → ℕ → ℕ → ℕ → Bool
 nearBy r gamma i a = r .fit i a && leb (r .cost i a) gamma
 
+-- the rule cut at gamma, so that what suits a point is just what may stand there: no place is lost, since each cost of a place is at most its sum
+abbrev pub cutAt : ℕ → Rule → Rule
+cutAt gamma r = record { fit = nearBy r gamma; cost = r .cost }
+
 -- two rules ask the same of the first m points: the same readings suit, and where one suits it costs the same
 pub record SameRule (m : ℕ) (r r′ : Rule) : Type 0 where
   pub same-fit : (i a : ℕ) → i < m → r .fit i a ≡ r′ .fit i a

@@ -24,17 +24,17 @@ ruleIn spans = record {
   cost = λ i a. spanCost (getD spans (4 * i + 2) 0) (getD spans (4 * i + 3) 0) a;
 }
 
--- the numbers of an ordinary point p: the readings from p - delta, or from the lowest, to p + delta suit it, and p itself costs nothing
+-- the numbers of an ordinary point p: the readings that are near by d suit it, from p - d, or from the lowest, to p + d; and p itself costs nothing
 abbrev pub spanOf : ℕ → ℕ → List ℕ
-spanOf delta p = max lowest (p - delta) ∷ (p + delta) ∷ p ∷ p ∷ []
+spanOf d p = max lowest (p - d) ∷ (p + d) ∷ p ∷ p ∷ []
 
 unfoldable pub spansFor : ℕ → List ℕ → List ℕ
-spansFor delta [] = []
-spansFor delta (p ∷ x) = spanOf delta p ++ spansFor delta x
+spansFor d [] = []
+spansFor d (p ∷ x) = spanOf d p ++ spansFor d x
 
 -- those of a whole profile, in a list of 256 numbers with zeros after them
 abbrev pub spansOf : ℕ → List ℕ → List ℕ
-spansOf delta x = overlay (spansFor delta x) (replicate (4 * maxPoints) 0)
+spansOf d x = overlay (spansFor d x) (replicate (4 * maxPoints) 0)
 
 -- what a search over spans asks of its input: 1 to 64 points of four numbers each, and within the limits otherwise
 pub record Ready (spans : List ℕ) (m gamma n : ℕ) : Type 0 where

@@ -46,13 +46,6 @@ impl Tolerance {
         }
     }
 
-    // The most that a reading of a place may differ from its point.
-    pub fn delta(self) -> u32
-        ensures { λ r. ⌜ r ≡ self .delta ⌝ }
-    {
-        self.delta
-    }
-
     // d, by which readings are near.
     pub fn d(self) -> u32
         ensures { λ r. ⌜ r ≡ dOf (self .delta) (self .gamma) ⌝ }

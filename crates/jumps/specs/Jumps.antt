@@ -7,7 +7,7 @@ use lib.Dec.{ltb, leb, eqb}
 use Rattle.fit.specs.Reading.{lowest, highest, alike, near}
 use Rattle.jumps.specs.Least.{greatest, least, allBelow, someBelow}
 
--- ---- the two rules that look at one reading a, for points of any kind: `near i a` says that a may stand at point i
+-- ---- the two rules that look at one reading a, for points of any kind: `near i a` says that a is near point i, whatever that is for its kind
 -- "m - i for the greatest i with x[i] near a; m if there is none"
 abbrev pub lastJump : (ℕ → ℕ → Bool) → ℕ → ℕ → ℕ
 lastJump near m a = m - greatest (λ i. near i a) m

@@ -3,7 +3,6 @@ use Prim.Native.Nat.{ℕ, zero, suc}
 use mathlib.Core.Path.{_≡_}
 use mathlib.Core.List.{List}
 use lib.ListN.{length, replicate}
-use Rattle.fit.specs.Rule.{nearBy}
 use Rattle.fit.specs.Place.{dOf}
 use Rattle.fit.specs.Spans.{ruleIn, spansOf}
 use Rattle.jumps.specs.Jumps.{lastJump, afterJump}
@@ -13,8 +12,8 @@ use Rattle.last.specs.declared.walk.Prepared.{Prepared}
 -- the spans of the profile, the last-reading jump of each reading, and the jump after a tried window
 pub record GoesBy (delta gamma : ℕ) (x : List ℕ) (p : Prepared) : Type 0 where
   pub none : p .refusal ≡ 0
-  pub spans : p .spans ≡ spansOf delta x
-  pub table : Holds (lastJump (nearBy (ruleIn (p .spans)) gamma) (length x)) 256 256 (p .table)
+  pub spans : p .spans ≡ spansOf (dOf delta gamma) x
+  pub table : Holds (lastJump (ruleIn (p .spans) .fit) (length x)) 256 256 (p .table)
   pub after : p .after ≡ afterJump (dOf delta gamma) x
 
 -- refused by a number: that, and zeros

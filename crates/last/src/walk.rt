@@ -28,11 +28,11 @@ pub fn prepare(points: &[u8], delta: u32, gamma: u32, recording: &[u8]) -> Prepa
             after: 0,
         };
     }
-    let spans = ordinary::spans_of(checked.profile, checked.tolerance);
     let tolerance = checked.tolerance;
     let d = tolerance.d();
+    let spans = ordinary::spans_of(checked.profile, d);
     let after = tables::after_jump(points, d);
-    let table = tables::last_table(&spans, points.len(), gamma);
+    let table = tables::last_table(&spans, points.len());
     Prepared {
         refusal: 0,
         spans,

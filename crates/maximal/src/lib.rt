@@ -22,8 +22,8 @@ pub fn search(points: &[u8], delta: u32, gamma: u32, recording: &[u8], list: &mu
     let m = points.len();
     let tolerance = checked.tolerance;
     let d = tolerance.d();
-    let spans = ordinary::spans_of(checked.profile, checked.tolerance);
-    let next = tables::next_table(&spans, m, gamma);
+    let spans = ordinary::spans_of(checked.profile, d);
+    let next = tables::next_table(&spans, m);
     let compared = comparing::compared_of(points, d);
     let order = compared.order;
     let jumps = compared.jumps;

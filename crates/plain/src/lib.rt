@@ -22,7 +22,9 @@ pub fn search(points: &[u8], delta: u32, gamma: u32, recording: &[u8], list: &mu
     if found.refusal != 0 {
         return found;
     }
-    let spans = ordinary::spans_of(checked.profile, checked.tolerance);
+    let tolerance = checked.tolerance;
+    let d = tolerance.d();
+    let spans = ordinary::spans_of(checked.profile, d);
     over_spans(&spans, points.len(), gamma, recording, list, found)
 }
 

@@ -1,2 +1,3 @@
 pub mod Askings
 pub mod Replies
+pub mod Judgings

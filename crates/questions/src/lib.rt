@@ -1,4 +1,6 @@
-// The questions that return the jumps: each tests what is turned away, and then asks its rule.
+// The questions: each tests what is turned away, and then asks its rule for a jump; and the one about a window, which asks the window check.
+mod judging;
+
 ghost use mathlib.Core.Path.{_≡_};
 ghost use Prim.Native.Nat.{_-_};
 ghost use lib.ListN.{length};
@@ -6,6 +8,10 @@ ghost use Rattle.fit.specs.Place.{fitOf, dOf};
 ghost use Rattle.fit.specs.Refusal.{questionRefusal};
 ghost use Rattle.jumps.specs.Jumps.{lastJump, nextJump, afterJump, mismatchJump, fullJump};
 ghost use Rattle.questions.specs.Asking.{jumpAnswer, ofPoint, mismatchRefusal};
+pub use judging::FlatVerdict;
+pub use judging::Judged;
+pub use judging::check;
+pub use judging::told;
 
 // The number of the refusal and a jump of 0; or 0 and the jump.
 #[repr(C)]
@@ -34,10 +40,12 @@ pub fn last_reading(points: &[u8], delta: u32, gamma: u32, a: u8) -> Jump
     if checked.refusal != 0 {
         return refused(checked.refusal);
     }
-    let spans = ordinary::spans_of(checked.profile, checked.tolerance);
+    let tolerance = checked.tolerance;
+    let d = tolerance.d();
+    let spans = ordinary::spans_of(checked.profile, d);
     Jump {
         refusal: 0,
-        jump: tables::last_jump(&spans, points.len(), gamma, a),
+        jump: tables::last_jump(&spans, points.len(), a),
     }
 }
 
@@ -51,10 +59,12 @@ pub fn next_reading(points: &[u8], delta: u32, gamma: u32, a: u8) -> Jump
     if checked.refusal != 0 {
         return refused(checked.refusal);
     }
-    let spans = ordinary::spans_of(checked.profile, checked.tolerance);
+    let tolerance = checked.tolerance;
+    let d = tolerance.d();
+    let spans = ordinary::spans_of(checked.profile, d);
     Jump {
         refusal: 0,
-        jump: tables::next_jump(&spans, points.len(), gamma, a),
+        jump: tables::next_jump(&spans, points.len(), a),
     }
 }
 

@@ -39,14 +39,14 @@ pub fn is_near(d: u32, p: u8, a: u8) -> bool
 }
 
 // The least reading that is near point p.
-pub fn least_near(p: u8, delta: u32) -> u8
-    ensures { λ r. ⌜ r ≡ max lowest (p - delta) ⌝ }
+pub fn least_near(p: u8, d: u32) -> u8
+    ensures { λ r. ⌜ r ≡ max lowest (p - d) ⌝ }
 {
     let v = p as u32;
-    if v < delta {
+    if v < d {
         return LOWEST as u8;
     }
-    let low = v - delta;
+    let low = v - d;
     if low < LOWEST {
         return LOWEST as u8;
     }

@@ -3,7 +3,6 @@ use fit::Search;
 ghost use mathlib.Core.Path.{_≡_};
 ghost use Prim.Native.Nat.{_+_, _≤_, _<_};
 ghost use lib.ListN.{length};
-ghost use Rattle.fit.specs.Rule.{nearBy};
 ghost use Rattle.fit.specs.Place.{fitOf, dOf};
 ghost use Rattle.fit.specs.Spans.{ruleIn, Ready};
 ghost use Rattle.fit.specs.Answer.{soughtBy, lent, begun, Answer, Answers};
@@ -22,7 +21,9 @@ pub fn search(points: &[u8], delta: u32, gamma: u32, recording: &[u8], list: &mu
     if found.refusal != 0 {
         return found;
     }
-    let spans = ordinary::spans_of(checked.profile, checked.tolerance);
+    let tolerance = checked.tolerance;
+    let d = tolerance.d();
+    let spans = ordinary::spans_of(checked.profile, d);
     over_spans(&spans, points.len(), gamma, recording, list, found)
 }
 
@@ -38,7 +39,7 @@ pub fn over_spans(
     requires { ⌜ Ready (now spans) m gamma (length (now recording)) × (start ≡ begun 0) ⌝ }
     ensures { λ r. ⌜
         Answer 0 (soughtBy (ruleIn (now (spans .entry))) m gamma (now (recording .entry)))
-        (length (skipWalk (nearBy (ruleIn (now (spans .entry))) gamma) m (now (recording .entry))))
+        (length (skipWalk (ruleIn (now (spans .entry)) .fit) m (now (recording .entry))))
         (lent (now (list .entry))) r (lent (now (list .exit))) ⌝ }
 {
     let mut found = start;
@@ -64,7 +65,7 @@ fn try_probed(
     requires { ⌜ (before .total ≤ before .tried) × (before .tried + m ≤ q + 1) ⌝ }
     ensures { λ r. ⌜
         TriedAll (soughtBy (ruleIn (now (spans .entry))) m gamma (now (recording .entry)))
-        (probed (nearBy (ruleIn (now (spans .entry))) gamma) m (now (recording .entry)) q m) before
+        (probed (ruleIn (now (spans .entry)) .fit) m (now (recording .entry)) q m) before
         (lent (now (list .entry))) r (lent (now (list .exit))) ⌝ }
 {
     let n = recording.len();
@@ -73,7 +74,7 @@ fn try_probed(
     let mut i = m;
     while 0 < i {
         i -= 1;
-        if window::may_stand(spans, gamma, i, a) {
+        if window::suits(spans, i, a) {
             if q - i + m <= n {
                 found = window::try_at(spans, m, gamma, recording, list, q - i, found);
             }

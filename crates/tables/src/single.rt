@@ -3,21 +3,20 @@ ghost use mathlib.Core.Path.{_≡_};
 ghost use Prim.Native.Nat.{_+_, _-_, _*_, _≤_};
 ghost use lib.ListN.{length, getD};
 ghost use Rattle.fit.specs.Reading.{highest, alike};
-ghost use Rattle.fit.specs.Rule.{nearBy};
 ghost use Rattle.fit.specs.Refusal.{maxPoints};
 ghost use Rattle.fit.specs.Spans.{ruleIn};
 ghost use Rattle.jumps.specs.Least.{greatest};
 ghost use Rattle.jumps.specs.Jumps.{lastJump, nextJump, afterJump};
 ghost use Rattle.tables.specs.Holding.{Holds, Usable};
 
-// Document 01's number of the greatest of m points at which reading a may stand; 0 if there is none.
-fn greatest_near(spans: &[u16], m: usize, gamma: u32, a: u8) -> usize
+// Document 01's number of the greatest of m points that reading a suits, that is, is near; 0 if there is none.
+fn greatest_near(spans: &[u16], m: usize, a: u8) -> usize
     requires { ⌜ 4 * m ≤ length (now spans) ⌝ }
-    ensures { λ r. ⌜ (r ≡ greatest (λ i. nearBy (ruleIn (now (spans .entry))) gamma i a) m) × (r ≤ m) ⌝ }
+    ensures { λ r. ⌜ (r ≡ greatest (λ i. ruleIn (now (spans .entry)) .fit i a) m) × (r ≤ m) ⌝ }
 {
     let mut i = m;
     while 0 < i {
-        if window::may_stand(spans, gamma, i - 1, a) {
+        if window::suits(spans, i - 1, a) {
             return i;
         }
         i -= 1;
@@ -26,30 +25,30 @@ fn greatest_near(spans: &[u16], m: usize, gamma: u32, a: u8) -> usize
 }
 
 // The last-reading jump for reading a.
-pub fn last_jump(spans: &[u16], m: usize, gamma: u32, a: u8) -> usize
+pub fn last_jump(spans: &[u16], m: usize, a: u8) -> usize
     requires { ⌜ 4 * m ≤ length (now spans) ⌝ }
-    ensures { λ r. ⌜ (r ≡ lastJump (nearBy (ruleIn (now (spans .entry))) gamma) m a) × (r ≤ m) ⌝ }
+    ensures { λ r. ⌜ (r ≡ lastJump (ruleIn (now (spans .entry)) .fit) m a) × (r ≤ m) ⌝ }
 {
-    m - greatest_near(spans, m, gamma, a)
+    m - greatest_near(spans, m, a)
 }
 
 // The next-reading jump for reading a.
-pub fn next_jump(spans: &[u16], m: usize, gamma: u32, a: u8) -> usize
+pub fn next_jump(spans: &[u16], m: usize, a: u8) -> usize
     requires { ⌜ (4 * m ≤ length (now spans)) × (m ≤ maxPoints) ⌝ }
-    ensures { λ r. ⌜ (r ≡ nextJump (nearBy (ruleIn (now (spans .entry))) gamma) m a) × (r ≤ m + 1) ⌝ }
+    ensures { λ r. ⌜ (r ≡ nextJump (ruleIn (now (spans .entry)) .fit) m a) × (r ≤ m + 1) ⌝ }
 {
-    m + 1 - greatest_near(spans, m, gamma, a)
+    m + 1 - greatest_near(spans, m, a)
 }
 
-// For each reading, `top` less document 01's number of the greatest point at which it may stand.
-fn jump_table(spans: &[u16], m: usize, gamma: u32, top: usize) -> [u8; 256]
+// For each reading, `top` less document 01's number of the greatest point that it suits.
+fn jump_table(spans: &[u16], m: usize, top: usize) -> [u8; 256]
     requires { ⌜ (4 * m ≤ length (now spans)) × (m ≤ top) × (top ≤ maxPoints + 1) ⌝ }
-    ensures { λ r. ⌜ Holds (λ a. top - greatest (λ i. nearBy (ruleIn (now (spans .entry))) gamma i a) m) 256 256 r ⌝ }
+    ensures { λ r. ⌜ Holds (λ a. top - greatest (λ i. ruleIn (now (spans .entry)) .fit i a) m) 256 256 r ⌝ }
 {
     let mut table = [0u8; 256];
     let mut a: usize = 0;
     while a < 256 {
-        let jump = top - greatest_near(spans, m, gamma, a as u8);
+        let jump = top - greatest_near(spans, m, a as u8);
         table[a] = jump as u8;
         a += 1;
     }
@@ -64,19 +63,19 @@ pub fn jump_at(table: &[u8; 256], a: u8) -> usize
 }
 
 // The last-reading jumps of all readings.
-pub fn last_table(spans: &[u16], m: usize, gamma: u32) -> [u8; 256]
+pub fn last_table(spans: &[u16], m: usize) -> [u8; 256]
     requires { ⌜ (4 * m ≤ length (now spans)) × (m ≤ maxPoints) ⌝ }
-    ensures { λ r. ⌜ Holds (lastJump (nearBy (ruleIn (now (spans .entry))) gamma) m) 256 256 r ⌝ }
+    ensures { λ r. ⌜ Holds (lastJump (ruleIn (now (spans .entry)) .fit) m) 256 256 r ⌝ }
 {
-    jump_table(spans, m, gamma, m)
+    jump_table(spans, m, m)
 }
 
 // The next-reading jumps of all readings.
-pub fn next_table(spans: &[u16], m: usize, gamma: u32) -> [u8; 256]
+pub fn next_table(spans: &[u16], m: usize) -> [u8; 256]
     requires { ⌜ (4 * m ≤ length (now spans)) × (m ≤ maxPoints) ⌝ }
-    ensures { λ r. ⌜ Holds (nextJump (nearBy (ruleIn (now (spans .entry))) gamma) m) 256 256 r ⌝ }
+    ensures { λ r. ⌜ Holds (nextJump (ruleIn (now (spans .entry)) .fit) m) 256 256 r ⌝ }
 {
-    jump_table(spans, m, gamma, m + 1)
+    jump_table(spans, m, m + 1)
 }
 
 // Document 01's number of the greatest of the first n points that differs from p by at most k; 0 if there is none.

@@ -4,9 +4,10 @@ mod check;
 mod spans;
 mod trying;
 
+pub use check::check_at;
 pub use check::count_windows;
 pub use check::is_place;
-pub use spans::may_stand;
+pub use spans::suits;
 pub use trying::note;
 pub use trying::note_none;
 pub use trying::try_at;

@@ -2,7 +2,6 @@
 ghost use mathlib.Core.Path.{_≡_};
 ghost use Prim.Native.Nat.{_+_, _-_, _*_, _≤_, _<_};
 ghost use lib.ListN.{length};
-ghost use Rattle.fit.specs.Rule.{nearBy};
 ghost use Rattle.fit.specs.Spans.{spanFits, spanCost, ruleIn};
 
 // a - b, and 0 where that is below 0.
@@ -29,7 +28,7 @@ fn span_cost(from: u16, to: u16, a: u8) -> u32
 }
 
 // Whether reading a suits point i.
-pub(crate) fn suits(spans: &[u16], i: usize, a: u8) -> bool
+pub fn suits(spans: &[u16], i: usize, a: u8) -> bool
     requires { ⌜ 4 * i + 3 < length (now spans) ⌝ }
     ensures { λ r. ⌜ r ≡ ruleIn (now (spans .entry)) .fit i a ⌝ }
 {
@@ -42,15 +41,4 @@ pub(crate) fn cost(spans: &[u16], i: usize, a: u8) -> u32
     ensures { λ r. ⌜ (r ≡ ruleIn (now (spans .entry)) .cost i a) × (r ≤ 65790) ⌝ }
 {
     span_cost(spans[4 * i + 2], spans[4 * i + 3], a)
-}
-
-// Whether reading a may stand at point i of a place.
-pub fn may_stand(spans: &[u16], gamma: u32, i: usize, a: u8) -> bool
-    requires { ⌜ 4 * i + 3 < length (now spans) ⌝ }
-    ensures { λ r. ⌜ r ≡ nearBy (ruleIn (now (spans .entry))) gamma i a ⌝ }
-{
-    if suits(spans, i, a) {
-        return cost(spans, i, a) <= gamma;
-    }
-    false
 }

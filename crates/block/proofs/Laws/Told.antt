@@ -10,9 +10,10 @@ use lib.ListN.{length, getD}
 use lib.Dec.{leb}
 use borrow.Author.Tests.{lt-leb}
 use Rattle.fit.specs.Rule.{Rule, isPlaceBy}
+use Rattle.fit.specs.Verdict.{verdictBy}
 use Rattle.fit.specs.Refusal.{maxGamma}
 use Rattle.fit.specs.Listing.{Entries}
-use Rattle.score.specs.Score.{scoreOf}
+use Rattle.score.specs.Score.{scoreIn}
 use Rattle.score.proofs.Laws.Scores.{score-place}
 use Rattle.block.specs.Block.{toldBy, NoneBelow}
 
@@ -41,7 +42,7 @@ told-none scores s gamma at least f l j h =
     rw own (lt-leb (getD scores (at + j) 0) gamma (omega (arith, f .each j h)))
 
 -- ---- what the scores tell is what is sought
-pub told-places : (r : Rule) (y : List ℕ) (s m gamma : ℕ) {scores : List ℕ} → Entries (λ j. scoreOf r m y m (s + j)) 64 scores → s + 63 + m ≤ length y
+pub told-places : (r : Rule) (y : List ℕ) (s m gamma : ℕ) {scores : List ℕ} → Entries (λ j. scoreIn (verdictBy r m gamma y (s + j))) 64 scores → s + 63 + m ≤ length y
     → gamma ≤ maxGamma → (j : ℕ) → j < 64 → toldBy scores s gamma .place (s + j) ≡ isPlaceBy r m gamma y (s + j)
 told-places r y s m gamma {scores} e inside g j h =
     sym (told-at scores s gamma j (getD scores j 0) refl) ∙ ap (λ (v : ℕ). leb v gamma) (e .each j h) ∙ score-place r m gamma y (s + j) (omega arith) g

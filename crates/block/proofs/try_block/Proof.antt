@@ -24,7 +24,7 @@ returns c =
     let noted = c .before .before in
     let scored = noted .before .before .before in
     let known = c .before .before .before .before .before .before .before .before .before .before .before .before .before .pre in
-    run-same _ _ _ _ (told-places _ _ _ _ _ (scored .scores .ensures) (known .0 .1) (known .0 .0 .gamma-small)) (noted .note-scored .ensures)
+    run-same _ _ _ _ (told-places _ _ _ _ _ (scored .scores .ensures _) (known .0 .1) (known .0 .0 .gamma-small)) (noted .note-scored .ensures)
 
 note-none-requires : tie.Need-note-none-requires
 note-none-requires c κs = search needs

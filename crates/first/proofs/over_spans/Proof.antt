@@ -15,7 +15,7 @@ use Rattle.first.proofs.over_spans.Tie as tie
 abbrev Inv-loop : tie.InvT-loop
 Inv-loop spans m gamma table after recording tried₀ q₀ tried q =
     Stands spans table m gamma after recording q
-    × Looked (isPlaceBy (ruleIn spans) m gamma recording) (walkIn spans m gamma after recording) (leftIn spans m gamma after recording q) (q - (m - 1)) tried
+    × Looked (isPlaceBy (ruleIn spans) m gamma recording) (walkIn spans m after recording) (leftIn spans m after recording q) (q - (m - 1)) tried
 
 abbrev μ-loop : tie.MeasureT-loop
 μ-loop spans m gamma table after recording tried₀ q₀ tried q = length recording - q

@@ -5,7 +5,7 @@ use mathlib.Core.List.{List}
 use Prim.Native.Nat.{ℕ, zero, suc, _+_, _≤_}
 use native.Mathlib.Omega.{arith}
 use lib.ListN.{length, set}
-use Rattle.fit.specs.Rule.{Rule, SameRule}
+use Rattle.fit.specs.Rule.{Rule, isPlaceBy}
 use Rattle.fit.specs.Place.{ruleOf, isPlace, windows}
 use Rattle.fit.specs.Refusal.{searchRefusal, Accepted}
 use Rattle.fit.specs.Listing.{places, overlay}
@@ -14,7 +14,6 @@ use Rattle.fit.specs.Made.{searchChecked}
 use Rattle.fit.specs.declared.limits.Checked.{Checked}
 use Rattle.fit.specs.declared.answer.Search.{Search}
 use Rattle.fit.proofs.Laws.Listings.{up-short}
-use Rattle.fit.proofs.Laws.Rules.{same-place}
 use Rattle.fit.proofs.Laws.Refusals.{never-four, none-exactly}
 
 -- ---- a search that has begun
@@ -41,11 +40,11 @@ none-refused num e z = sym (begun-number num e) ∙ z
 pub begun-none : (num : ℕ) {r : Search} → r ≡ begun num → r .refusal ≡ 0 → r ≡ begun 0
 begun-none num e z = e ∙ ap begun (none-refused num e z)
 
--- ---- what is sought over spans is what is sought for the profile: their rules ask the same
-pub same-sought : (r′ : Rule) (delta gamma : ℕ) (x y : List ℕ) → SameRule (length x) r′ (ruleOf delta x) → soughtBy r′ (length x) gamma y ≡ soughtOf delta gamma x y
+-- ---- what is sought under a rule that has the profile's places is what is sought for the profile
+pub same-sought : (r : Rule) (delta gamma : ℕ) (x y : List ℕ) → ((s : ℕ) → isPlaceBy r (length x) gamma y s ≡ isPlaceBy (ruleOf delta x) (length x) gamma y s)
+    → soughtBy r (length x) gamma y ≡ soughtOf delta gamma x y
 unfolding isPlace
-same-sought r′ delta gamma x y q =
-    λ i. record { count = windows (length x) (length y); place = λ s. same-place (length x) r′ (ruleOf delta x) q gamma y s i }
+same-sought r delta gamma x y same = λ i. record { count = windows (length x) (length y); place = λ s. same s i }
 
 -- ---- what an answer says, in document 01's words
 -- what is sought is the list of places

@@ -11,8 +11,9 @@ use lib.Seq.{take-suc, length-take-le, getD-append-add}
 use lib.Dec.{leb, eqb}
 use borrow.Author.Tests.{leb-true, le-leb, eqb-true, eq-eqb}
 use Rattle.fit.specs.Reading.{lowest, near}
-use Rattle.fit.specs.Rule.{SameRule, isPlaceBy, nearBy}
+use Rattle.fit.specs.Rule.{SameRule, isPlaceBy}
 use Rattle.fit.specs.Place.{fitOf, ruleOf, Place, dOf}
+use Rattle.fit.specs.Verdict.{verdictBy, verdictOf}
 use Rattle.fit.specs.Listing.{overlay}
 use Rattle.fit.specs.Refusal.{maxPoints, Accepted}
 use Rattle.fit.specs.Spans.{spanFits, ruleIn, spanOf, spansFor, spansOf, Ready}
@@ -20,8 +21,9 @@ use Rattle.fit.specs.Answer.{soughtBy, soughtOf, Lent, Answer, Answers}
 use Rattle.fit.specs.declared.answer.Search.{Search}
 use Rattle.fit.proofs.Laws.Bools.{and-left, and-right, and-both, same-test}
 use Rattle.fit.proofs.Laws.Readings.{near-le, near-lowest, le-near}
-use Rattle.fit.proofs.Laws.Rules.{same-place, same-near}
-use Rattle.fit.proofs.Laws.Places.{by-place, near-derived}
+use Rattle.fit.proofs.Laws.Rules.{same-place}
+use Rattle.fit.proofs.Laws.Places.{by-place, by-derived}
+use Rattle.fit.proofs.Laws.Verdicts.{same-verdict, verdict-derived}
 use Rattle.fit.proofs.Laws.Refusals.{none-exactly}
 use Rattle.fit.proofs.Laws.Answers.{same-sought}
 use Rattle.fit.proofs.Laws.Listings.{overlay-none, overlay-more, length-overlay, overlay-at}
@@ -119,33 +121,41 @@ same-rule delta x few = record {
 }
 
 -- ---- a profile that is compiled: it has its four numbers a point, and their rule asks what the profile's does
-pub compiled-long : (delta : ℕ) (x spans : List ℕ) → spans ≡ spansOf delta x → length x ≤ maxPoints → 4 * length x ≤ length spans
-compiled-long delta x spans made few =
-    omega (arith, ap length made ∙ length-overlay (spansFor delta x) (replicate (4 * maxPoints) 0), length-replicate {A = ℕ} (4 * maxPoints) 0)
+pub compiled-size : (d : ℕ) (x spans : List ℕ) → spans ≡ spansOf d x → length spans ≡ 4 * maxPoints
+compiled-size d x spans made = ap length made ∙ length-overlay (spansFor d x) (replicate (4 * maxPoints) 0) ∙ length-replicate {A = ℕ} (4 * maxPoints) 0
 
-module _ (delta gamma : ℕ) (x spans : List ℕ) (made : spans ≡ spansOf delta x) (few : length x ≤ maxPoints) where
-  compiled-rule : SameRule (length x) (ruleIn spans) (ruleOf delta x)
-  compiled-rule = rw made (same-rule delta x few)
+pub compiled-long : (d : ℕ) (x spans : List ℕ) → spans ≡ spansOf d x → length x ≤ maxPoints → 4 * length x ≤ length spans
+compiled-long d x spans made few = omega (arith, compiled-size d x spans made)
 
-  pub compiled-near : (i a : ℕ) → i < length x → nearBy (ruleIn spans) gamma i a ≡ fitOf (dOf delta gamma) x i a
-  compiled-near i a l = same-near (length x) (ruleIn spans) (ruleOf delta x) compiled-rule gamma i a l ∙ near-derived delta gamma x i a
+module _ (delta gamma : ℕ) (x spans : List ℕ) (made : spans ≡ spansOf (dOf delta gamma) x) (few : length x ≤ maxPoints) where
+  compiled-rule : SameRule (length x) (ruleIn spans) (ruleOf (dOf delta gamma) x)
+  compiled-rule = rw made (same-rule (dOf delta gamma) x few)
+
+  pub compiled-near : (i a : ℕ) → i < length x → ruleIn spans .fit i a ≡ fitOf (dOf delta gamma) x i a
+  compiled-near = compiled-rule .same-fit
+
+  compiled-by : (y : List ℕ) (t : ℕ) → isPlaceBy (ruleIn spans) (length x) gamma y t ≡ isPlaceBy (ruleOf delta x) (length x) gamma y t
+  compiled-by y t = same-place (length x) (ruleIn spans) (ruleOf (dOf delta gamma) x) compiled-rule gamma y t ∙ by-derived delta gamma x y t
 
   pub compiled-place : (y : List ℕ) (t : ℕ) → isPlaceBy (ruleIn spans) (length x) gamma y t ≡ true → Place delta gamma x y t
-  compiled-place y t e = by-place delta gamma x y t (sym (same-place (length x) (ruleIn spans) (ruleOf delta x) compiled-rule gamma y t) ∙ e)
+  compiled-place y t e = by-place delta gamma x y t (sym (compiled-by y t) ∙ e)
+
+  pub compiled-verdict : (y : List ℕ) (s : ℕ) → verdictBy (ruleIn spans) (length x) gamma y s ≡ verdictOf delta gamma x y s
+  compiled-verdict y s = same-verdict (length x) (ruleIn spans) (ruleOf (dOf delta gamma) x) compiled-rule gamma y s ∙ verdict-derived delta gamma x y s
 
 -- a search that is accepted is ready to go over its spans, and what it answers there is its answer
-module _ (delta gamma : ℕ) (x y spans : List ℕ) (made : spans ≡ spansOf delta x) (ok : Accepted delta gamma x y) where
+module _ (delta gamma : ℕ) (x y spans : List ℕ) (made : spans ≡ spansOf (dOf delta gamma) x) (ok : Accepted delta gamma x y) where
   pub ready : Ready spans (length x) gamma (length y)
   ready = record {
     some = ok .asked .some;
     few = ok .asked .few;
-    full = compiled-long delta x spans made (ok .asked .few);
+    full = compiled-long (dOf delta gamma) x spans made (ok .asked .few);
     gamma-small = ok .asked .gamma-small;
     short = ok .short;
   }
 
   pub compiled-sought : soughtBy (ruleIn spans) (length x) gamma y ≡ soughtOf delta gamma x y
-  compiled-sought = same-sought (ruleIn spans) delta gamma x y (compiled-rule delta gamma x spans made (ok .asked .few))
+  compiled-sought = same-sought (ruleIn spans) delta gamma x y (compiled-by delta gamma x spans made (ok .asked .few) y)
 
   pub compiled-answer : (tried tried′ : ℕ) {entry final : Lent} {r : Search} → tried ≡ tried′
       → Answer 0 (soughtBy (ruleIn spans) (length x) gamma y) tried entry r final → Answers delta gamma x y tried′ entry r final

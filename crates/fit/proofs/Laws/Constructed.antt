@@ -119,5 +119,6 @@ told-d delta gamma x c e = rw (c .tolerance) at e
 pub told-g : (delta gamma : ℕ) (x : List ℕ) (m : ℕ) {q : Checked} {g : ℕ} → Carries delta gamma x q → g ≡ gOf m (q .tolerance .delta) (q .tolerance .gamma) → g ≡ gOf m delta gamma
 told-g delta gamma x m c e = rw (c .tolerance) at e
 
-pub told-spans : (delta gamma : ℕ) (x : List ℕ) {q : Checked} {spans : List ℕ} → Carries delta gamma x q → spans ≡ spansOf (q .tolerance .delta) (pointsOf (q .profile)) → spans ≡ spansOf delta x
-told-spans delta gamma x c e = rw (c .points, c .tolerance) at e
+pub told-spans : (delta gamma : ℕ) (x : List ℕ) {q : Checked} {d : ℕ} {spans : List ℕ} → Carries delta gamma x q → d ≡ dOf (q .tolerance .delta) (q .tolerance .gamma)
+    → spans ≡ spansOf d (pointsOf (q .profile)) → spans ≡ spansOf (dOf delta gamma) x
+told-spans delta gamma x c small e = rw (c .points, told-d delta gamma x c small) at e

@@ -3,13 +3,14 @@ use mathlib.Core.Path.{_≡_, sym, ap, _∙_}
 use mathlib.Core.List.{List}
 use Prim.Native.Nat.{ℕ, _≤_}
 use native.Mathlib.Omega.{arith}
+use Rattle.fit.specs.Place.{dOf}
 use Rattle.fit.specs.Refusal.{maxPoints, maxDelta, Asked, Accepted}
 use Rattle.fit.specs.Answer.{begun}
 use Rattle.fit.specs.Made.{questionChecked, searchChecked}
 use Rattle.fit.specs.declared.limits.Checked.{Checked}
 use Rattle.fit.specs.declared.answer.Search.{Search}
 use Rattle.fit.proofs.Laws.Refusals.{asked-accepted, accepted}
-use Rattle.fit.proofs.Laws.Constructed.{Carries, question-carries, search-carries}
+use Rattle.fit.proofs.Laws.Constructed.{Carries, question-carries, search-carries, told-d}
 use Rattle.fit.proofs.Laws.Answers.{begun-number, begins, begun-none}
 
 -- a question
@@ -45,5 +46,6 @@ underway delta gamma x y e b z =
     record { ok = past .ok; carries = past .carries; none = begun-none _ (begins delta gamma x y e b) z }
 
 -- the profile of either may be compiled
-pub may-compile : (delta gamma : ℕ) (x : List ℕ) {q : Checked} → Asked delta gamma x → Carries delta gamma x q → (q .profile .m ≤ maxPoints) × (q .tolerance .delta ≤ maxDelta)
-may-compile delta gamma x ok c = (omega (arith, c .m, ok .few), rw (c .tolerance) (ok .delta-small))
+pub may-compile : (delta gamma : ℕ) (x : List ℕ) {q : Checked} {d : ℕ} → Asked delta gamma x → Carries delta gamma x q → d ≡ dOf (q .tolerance .delta) (q .tolerance .gamma)
+    → (q .profile .m ≤ maxPoints) × (d ≤ maxDelta)
+may-compile delta gamma x ok c small = (omega (arith, c .m, ok .few), omega (arith, told-d delta gamma x c small, ok .delta-small))

@@ -1,5 +1,5 @@
 -- Laws of places: relation and test say the same, the list has exactly the places, and (d, g) gives the same ones. Assumes nothing.
-use mathlib.Core.Path.{_≡_}
+use mathlib.Core.Path.{_≡_, refl, sym}
 use mathlib.Core.Bool.{true, _&&_}
 use mathlib.Core.List.{List, List·Memᴰ}
 use Prim.Native.Nat.{ℕ, _+_, _≤_, _<_}
@@ -8,14 +8,14 @@ use lib.ListN.{length, getD}
 use lib.Dec.{leb}
 use borrow.Author.Tests.{leb-true, le-leb}
 use Rattle.fit.specs.Reading.{diff, near}
-use Rattle.fit.specs.Rule.{readingAt, isPlaceBy, nearBy}
+use Rattle.fit.specs.Rule.{readingAt, isPlaceBy, nearBy, cutAt, SameRule}
 use Rattle.fit.specs.Place.{fitOf, costOf, ruleOf, sumDiff, Place, isPlace, windows, dOf, gOf}
 use Rattle.fit.specs.Listing.{places, Rising, those}
 use Rattle.fit.proofs.Laws.Bools.{and-left, and-right, and-both, same-test}
 use Rattle.fit.proofs.Laws.Readings.{zero-below, near-le, near-lowest, le-near, near-wider}
 use Rattle.fit.proofs.Laws.Listings.{up-same}
 use Rattle.fit.proofs.Laws.Risings.{in-up, up-in, rising-up, rising-same, finds-all}
-use Rattle.fit.proofs.Laws.Rules.{fit-all, sum-term, sum-bound, by-is, by-inside, by-fit, by-within}
+use Rattle.fit.proofs.Laws.Rules.{fit-all, sum-term, sum-bound, by-is, by-inside, by-fit, by-within, same-cut}
 
 -- ---- the relation, by what is near: callers make and read places so
 module _ (delta gamma : ℕ) (x y : List ℕ) (s : ℕ) where
@@ -129,3 +129,10 @@ near-derived delta gamma x i a =
     (omega (arith, near-le delta p a n, leb-true (diff p a) gamma (and-right (near delta p a) (leb (diff p a) gamma) t))))
     (λ t. and-both (near delta p a) (leb (diff p a) gamma) (near-wider (dOf delta gamma) delta p a (omega arith) t)
     (le-leb (diff p a) gamma (omega (arith, near-le (dOf delta gamma) p a t))))
+
+-- so an ordinary profile by d asks what it asks by delta, cut at gamma, and has the same places
+pub derived-rule : (delta gamma : ℕ) (x : List ℕ) → SameRule (length x) (ruleOf (dOf delta gamma) x) (cutAt gamma (ruleOf delta x))
+derived-rule delta gamma x = record { same-fit = λ i a l. sym (near-derived delta gamma x i a); same-cost = λ i a l e. refl }
+
+pub by-derived : (delta gamma : ℕ) (x y : List ℕ) (s : ℕ) → isPlaceBy (ruleOf (dOf delta gamma) x) (length x) gamma y s ≡ isPlaceBy (ruleOf delta x) (length x) gamma y s
+by-derived delta gamma x y s = same-cut (length x) (ruleOf (dOf delta gamma) x) (ruleOf delta x) gamma (derived-rule delta gamma x) y s

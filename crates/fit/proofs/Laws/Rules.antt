@@ -1,6 +1,6 @@
 -- Laws of a window under any rule, and that two rules that ask the same have the same places. Assumes nothing.
-use mathlib.Core.Path.{_≡_, refl, sym, ap, ap₂, _∙_}
-use mathlib.Core.Bool.{Bool, true, false, _&&_}
+use mathlib.Core.Path.{_≡_, refl, sym, ap₂, _∙_}
+use mathlib.Core.Bool.{Bool, true}
 use mathlib.Core.Logic.{⊎-elim}
 use mathlib.Core.List.{List}
 use Prim.Native.Nat.{ℕ, zero, suc, _+_, _*_, _≤_, _<_}
@@ -10,9 +10,9 @@ use native.Mathlib.Omega.{arith}
 use lib.ListN.{length}
 use lib.Dec.{leb}
 use borrow.Author.Tests.{leb-true, le-leb}
-use Rattle.fit.specs.Rule.{Rule, readingAt, allFit, sumCost, isPlaceBy, nearBy, SameRule}
+use Rattle.fit.specs.Rule.{Rule, readingAt, allFit, sumCost, isPlaceBy, nearBy, cutAt, SameRule}
 use Rattle.fit.specs.Place.{windows}
-use Rattle.fit.proofs.Laws.Bools.{and-left, and-right, and-both, all-three, same-test, is-false, not-both}
+use Rattle.fit.proofs.Laws.Bools.{and-left, and-right, and-both, all-three, same-test}
 
 -- ---- the readings of a window
 module _ (fit : ℕ → ℕ → Bool) (y : List ℕ) (s : ℕ) where
@@ -97,10 +97,6 @@ module _ (r : Rule) (m gamma : ℕ) (y : List ℕ) (s : ℕ) where
       and-both (r .fit i (readingAt y s i)) (leb (r .cost i (readingAt y s i)) gamma) (by-fit e i h)
       (le-leb (r .cost i (readingAt y s i)) gamma (omega (arith, sum-term (r .cost) y s m i h, by-within e)))
 
-  -- a reading that does not suit its point spoils the window
-  pub not-fit : (i : ℕ) → i < m → r .fit i (readingAt y s i) ≡ false → isPlaceBy r m gamma y s ≡ false
-  not-fit i h q = is-false _ (λ e. not-both (by-fit e i h) q)
-
 -- ---- the window check: its state after k points that suit, with the sum so far; `each` bounds one cost
 pub record Matched (r : Rule) (y : List ℕ) (s k sum each : ℕ) : Type 0 where
   pub fits : allFit (r .fit) y s k ≡ true
@@ -119,15 +115,6 @@ module _ (r : Rule) (y : List ℕ) (s each : ℕ) where
     small = omega (arith, f .small);
   }
 
-  -- a window whose readings all suit is a place by its sum alone
-  pub matched-place : (m gamma k sum : ℕ) → s + m ≤ length y → k ≡ m → Matched r y s k sum each → isPlaceBy r m gamma y s ≡ leb sum gamma
-  unfolding isPlaceBy
-  matched-place m gamma k sum inside e f = rw (le-leb (s + m) (length y) inside, ← e, f .fits, ← f .sums)
-
--- ---- whether a reading that suits may stand at a point: its cost decides
-pub stands-by-cost : (fit fit′ : Bool) (cost cost′ gamma : ℕ) → fit ≡ fit′ → fit ≡ true → cost ≡ cost′ → leb cost gamma ≡ (fit′ && leb cost′ gamma)
-stands-by-cost fit fit′ cost cost′ gamma e t f = rw (← e, ← f, t)
-
 -- ---- two rules that ask the same
 same-back : (m : ℕ) (r r′ : Rule) → SameRule m r r′ → SameRule m r′ r
 same-back m r r′ q = record {
@@ -142,15 +129,19 @@ half-same m r r′ q gamma y s e =
     (fit-all (r′ .fit) y s m (λ i l. sym (q .same-fit i (readingAt y s i) l) ∙ f i l))
     (omega (arith, by-within r m gamma y s e, sum-same (r .cost) (r′ .cost) y s m (λ i l. q .same-cost i (readingAt y s i) l (f i l))))
 
-near-half : (a b : Bool) (c c′ gamma : ℕ) → a ≡ b → (a ≡ true → c ≡ c′) → (a && leb c gamma) ≡ (b && leb c′ gamma)
-near-half true true c c′ gamma e f = ap (λ (k : ℕ). leb k gamma) (f refl)
-near-half true false c c′ gamma e f = absurd (not-both refl e)
-near-half false true c c′ gamma e f = absurd (not-both refl (sym e))
-near-half false false c c′ gamma e f = refl
-
 module _ (m : ℕ) (r r′ : Rule) (q : SameRule m r r′) (gamma : ℕ) where
   pub same-place : (y : List ℕ) (s : ℕ) → isPlaceBy r m gamma y s ≡ isPlaceBy r′ m gamma y s
   same-place y s = same-test _ _ (half-same m r r′ q gamma y s) (half-same m r′ r (same-back m r r′ q) gamma y s)
 
-  pub same-near : (i a : ℕ) → i < m → nearBy r gamma i a ≡ nearBy r′ gamma i a
-  same-near i a l = near-half (r .fit i a) (r′ .fit i a) (r .cost i a) (r′ .cost i a) gamma (q .same-fit i a l) (q .same-cost i a l)
+-- ---- a rule that is cut at gamma has the same places
+pub cut-place : (r : Rule) (m gamma : ℕ) (y : List ℕ) (s : ℕ) → isPlaceBy (cutAt gamma r) m gamma y s ≡ isPlaceBy r m gamma y s
+cut-place r m gamma y s =
+    same-test _ _
+    (λ e. by-is r m gamma y s (by-inside (cutAt gamma r) m gamma y s e)
+    (fit-all (r .fit) y s m (λ i l. and-left (r .fit i (readingAt y s i)) _ (by-fit (cutAt gamma r) m gamma y s e i l)))
+    (by-within (cutAt gamma r) m gamma y s e))
+    (λ e. by-is (cutAt gamma r) m gamma y s (by-inside r m gamma y s e) (fit-all (nearBy r gamma) y s m (by-near r m gamma y s e)) (by-within r m gamma y s e))
+
+-- so have two rules of which the one asks what the other, cut, does
+pub same-cut : (m : ℕ) (r r′ : Rule) (gamma : ℕ) → SameRule m r (cutAt gamma r′) → (y : List ℕ) (s : ℕ) → isPlaceBy r m gamma y s ≡ isPlaceBy r′ m gamma y s
+same-cut m r r′ gamma q y s = same-place m r (cutAt gamma r′) q gamma y s ∙ cut-place r′ m gamma y s

@@ -9,6 +9,7 @@ use Rattle.fit.specs.Reading.{near}
 use Rattle.fit.specs.Rule.{Rule, readingAt, isPlaceBy, nearBy}
 use Rattle.fit.specs.Place.{Place, dOf}
 use Rattle.fit.specs.Refusal.{Asked}
+use Rattle.fit.proofs.Laws.Bools.{and-left}
 use Rattle.jumps.specs.Jumps.{lastJump, nextJump, afterJump, earlier, mismatchJump, fullJump}
 use Rattle.jumps.specs.Demand.{Readings, LastIs, NextIs, LastNear, Mismatch, AllNear}
 use Rattle.jumps.proofs.Laws.Frame.{not-beyond}
@@ -41,15 +42,18 @@ module _ (d : ℕ) (x y : List ℕ) (s : ℕ) (inside : s + length x ≤ length 
   pub all-near : ((q : ℕ) → q < length x → near d (getD x q 0) (readingAt y s q) ≡ true) → AllNear d x y s
   all-near f = record { inside = inside; each = f }
 
--- under any rule
+-- under any rule, by the readings that suit its points
 module _ (r : Rule) (m gamma : ℕ) (some : 1 ≤ m) (y : List ℕ) (s t : ℕ) (place : isPlaceBy r m gamma y t ≡ true) where
-  pub last-keeps : s + m ≤ length y → s ≤ t → s + lastJump (nearBy r gamma) m (readingAt y s (m - 1)) ≤ t
-  last-keeps inside h =
-      not-beyond 0 _ s t (λ p. last-by-passes r m gamma some (readingAt y s (m - 1)) y s t (last-is y s m some inside) p place) (omega arith)
+  suits : (i c : ℕ) → nearBy r gamma i c ≡ true → r .fit i c ≡ true
+  suits i c n = and-left (r .fit i c) _ n
 
-  pub next-keeps : s + m < length y → s < t → s + nextJump (nearBy r gamma) m (readingAt y s m) ≤ t
+  pub last-keeps : s + m ≤ length y → s ≤ t → s + lastJump (r .fit) m (readingAt y s (m - 1)) ≤ t
+  last-keeps inside h =
+      not-beyond 0 _ s t (λ p. last-by-passes r m gamma some (readingAt y s (m - 1)) (r .fit) suits y s t (last-is y s m some inside) p place) (omega arith)
+
+  pub next-keeps : s + m < length y → s < t → s + nextJump (r .fit) m (readingAt y s m) ≤ t
   next-keeps inside h =
-      not-beyond 1 _ s t (λ p. next-by-passes r m gamma some (readingAt y s m) y s t (next-is y s m inside) p place) (omega arith)
+      not-beyond 1 _ s t (λ p. next-by-passes r m gamma some (readingAt y s m) (r .fit) suits y s t (next-is y s m inside) p place) (omega arith)
 
 -- for ordinary profiles
 module _ (delta gamma : ℕ) (x y : List ℕ) (asked : Asked delta gamma x) (s t : ℕ) (place : Place delta gamma x y t) (later : s < t) where

@@ -22,23 +22,24 @@ module _ (near near′ : ℕ → ℕ → Bool) (m a : ℕ) (same : (i : ℕ) →
   next-same = rw (greatest-same (λ i. near i a) (λ i. near′ i a) m same)
 
 module _ (r : Rule) (m gamma : ℕ) (some : 1 ≤ m) (a : ℕ) where
-  stands : (i c : ℕ) → i < m → c ≡ a → nearBy r gamma i c ≡ true → nearBy r gamma i a ≡ true
-  stands i c l e n = subst (λ (c : ℕ). nearBy r gamma i c ≡ true) e n
+  -- whatever values the recording has, and by any test that a reading passes where it may stand
+  module _ (near : ℕ → ℕ → Bool) (wide : (i c : ℕ) → nearBy r gamma i c ≡ true → near i c ≡ true) where
+    stands : (i c : ℕ) → i < m → c ≡ a → nearBy r gamma i c ≡ true → near i a ≡ true
+    stands i c l e n = subst (λ (c : ℕ). near i c ≡ true) e (wide i c n)
 
-  -- whatever values the recording has
-  pub last-by-passes : (y : List ℕ) (s t : ℕ) → LastIs m a y s → Passed 0 (lastJump (nearBy r gamma) m a) s t → PlaceBy r m gamma y t → ⊥
-  last-by-passes =
-      single-passes r m gamma (m - 1) m m 0 m (λ c. c ≡ a) (λ i. nearBy r gamma i a) (omega arith) (omega arith) (omega arith) (omega arith) stands
+    pub last-by-passes : (y : List ℕ) (s t : ℕ) → LastIs m a y s → Passed 0 (lastJump near m a) s t → PlaceBy r m gamma y t → ⊥
+    last-by-passes =
+        single-passes r m gamma (m - 1) m m 0 m (λ c. c ≡ a) (λ i. near i a) (omega arith) (omega arith) (omega arith) (omega arith) stands
 
-  pub next-by-passes : (y : List ℕ) (s t : ℕ) → NextIs m a y s → Passed 1 (nextJump (nearBy r gamma) m a) s t → PlaceBy r m gamma y t → ⊥
-  next-by-passes =
-      single-passes r m gamma m (suc m) m 1 (m + 1) (λ c. c ≡ a) (λ i. nearBy r gamma i a) (omega arith) (omega arith) (omega arith) (omega arith) stands
+    pub next-by-passes : (y : List ℕ) (s t : ℕ) → NextIs m a y s → Passed 1 (nextJump near m a) s t → PlaceBy r m gamma y t → ⊥
+    next-by-passes =
+        single-passes r m gamma m (suc m) m 1 (m + 1) (λ c. c ≡ a) (λ i. near i a) (omega arith) (omega arith) (omega arith) (omega arith) stands
 
   pub last-by-not-too-long : NotTooLong (PlaceBy r m gamma) (LastIs m a) 0 (lastJump (nearBy r gamma) m a)
-  last-by-not-too-long y s t rd = last-by-passes y s t
+  last-by-not-too-long y s t rd = last-by-passes (nearBy r gamma) (λ i c n. n) y s t
 
   pub next-by-not-too-long : NotTooLong (PlaceBy r m gamma) (NextIs m a) 1 (nextJump (nearBy r gamma) m a)
-  next-by-not-too-long y s t rd = next-by-passes y s t
+  next-by-not-too-long y s t rd = next-by-passes (nearBy r gamma) (λ i c n. n) y s t
 
   module _ (h : Home r m) (few : m ≤ maxPoints) (byte : a ≤ highest) where
     meets : (i : ℕ) → i < m → nearBy r gamma i a ≡ true → Meet r gamma i (λ c. c ≡ a)

@@ -3,7 +3,6 @@ use Prim.Native.Nat.{ℕ}
 use mathlib.Core.Path.{_≡_}
 use mathlib.Core.List.{List}
 use lib.ListN.{length}
-use Rattle.fit.specs.Rule.{nearBy}
 use Rattle.fit.specs.Place.{fitOf, dOf}
 use Rattle.fit.specs.Refusal.{Asked}
 use Rattle.fit.specs.Spans.{ruleIn, spansOf}
@@ -11,9 +10,9 @@ use Rattle.fit.proofs.Laws.Compiled.{compiled-near}
 use Rattle.jumps.specs.Jumps.{lastJump, nextJump}
 use Rattle.jumps.proofs.Laws.OneReading.{last-same, next-same}
 
-module _ (delta gamma : ℕ) (x spans : List ℕ) (made : spans ≡ spansOf delta x) (asked : Asked delta gamma x) where
-  pub last-over-spans : (a : ℕ) → lastJump (nearBy (ruleIn spans) gamma) (length x) a ≡ lastJump (fitOf (dOf delta gamma) x) (length x) a
-  last-over-spans a = last-same (nearBy (ruleIn spans) gamma) (fitOf (dOf delta gamma) x) (length x) a (λ i l. compiled-near delta gamma x spans made (asked .few) i a l)
+module _ (delta gamma : ℕ) (x spans : List ℕ) (made : spans ≡ spansOf (dOf delta gamma) x) (asked : Asked delta gamma x) where
+  pub last-over-spans : (a : ℕ) → lastJump (ruleIn spans .fit) (length x) a ≡ lastJump (fitOf (dOf delta gamma) x) (length x) a
+  last-over-spans a = last-same (ruleIn spans .fit) (fitOf (dOf delta gamma) x) (length x) a (λ i l. compiled-near delta gamma x spans made (asked .few) i a l)
 
-  pub next-over-spans : (a : ℕ) → nextJump (nearBy (ruleIn spans) gamma) (length x) a ≡ nextJump (fitOf (dOf delta gamma) x) (length x) a
-  next-over-spans a = next-same (nearBy (ruleIn spans) gamma) (fitOf (dOf delta gamma) x) (length x) a (λ i l. compiled-near delta gamma x spans made (asked .few) i a l)
+  pub next-over-spans : (a : ℕ) → nextJump (ruleIn spans .fit) (length x) a ≡ nextJump (fitOf (dOf delta gamma) x) (length x) a
+  next-over-spans a = next-same (ruleIn spans .fit) (fitOf (dOf delta gamma) x) (length x) a (λ i l. compiled-near delta gamma x spans made (asked .few) i a l)

@@ -7,7 +7,7 @@ use native.Mathlib.Omega.{arith}
 use lib.ListN.{length, getD}
 use lib.Dec.{eqb}
 use borrow.Author.Tests.{lt-ltb, le-ltb, eq-eqb, ne-eqb, eqb-true, eqb-false}
-use Rattle.fit.specs.Rule.{isPlaceBy, nearBy}
+use Rattle.fit.specs.Rule.{isPlaceBy}
 use Rattle.fit.specs.Listing.{those}
 use Rattle.fit.specs.Refusal.{maxPoints}
 use Rattle.fit.specs.Spans.{ruleIn}
@@ -67,29 +67,29 @@ module _ (table y : List ℕ) where
       rw (f, e) (on ∙ same-steps k (length y - (q + entry q)) (q + entry q) (omega (arith, n, e)) (omega arith))
 
 -- ---- the walk of m points compiled to spans, and what is left of it at the window whose last reading stands at q
-abbrev pub leftIn : List ℕ → ℕ → ℕ → ℕ → List ℕ → ℕ → List ℕ
-leftIn spans m gamma after y q = left (nearBy (ruleIn spans) gamma) m (afterBy after) y (q - (m - 1))
+abbrev pub leftIn : List ℕ → ℕ → ℕ → List ℕ → ℕ → List ℕ
+leftIn spans m after y q = left (ruleIn spans .fit) m (afterBy after) y (q - (m - 1))
 
 -- the walk stands there: it tries that window, or it has ended
 pub record Stands (spans table : List ℕ) (m gamma after : ℕ) (y : List ℕ) (q : ℕ) : Type 0 where
   pub walkable : Walkable spans table m gamma after y
   pub readings : (i : ℕ) → getD y i 0 < 256
   pub from : m ≤ q + 1
-  pub tries : q < length y → lastJump (nearBy (ruleIn spans) gamma) m (getD y q 0) ≡ 0
+  pub tries : q < length y → lastJump (ruleIn spans .fit) m (getD y q 0) ≡ 0
 
 module _ (spans table : List ℕ) (m gamma after : ℕ) (y : List ℕ) (w : Walkable spans table m gamma after y) where
   -- the places among its windows are all that is sought
-  pub walk-finds : those (isPlaceBy (ruleIn spans) m gamma y) (walkIn spans m gamma after y) ≡ all (soughtBy (ruleIn spans) m gamma y)
+  pub walk-finds : those (isPlaceBy (ruleIn spans) m gamma y) (walkIn spans m after y) ≡ all (soughtBy (ruleIn spans) m gamma y)
   walk-finds = last-finds (ruleIn spans) m gamma (afterBy after) y (w .ready .some) (w .safe)
 
   module _ (readings : (i : ℕ) → getD y i 0 < 256) where
     -- what is told of the position to which the jumps lead
     record Leads (q p : ℕ) : Type 0 where
       forth : q ≤ p
-      same : leftIn spans m gamma after y q ≡ leftIn spans m gamma after y p
-      tries : p < length y → lastJump (nearBy (ruleIn spans) gamma) m (getD y p 0) ≡ 0
+      same : leftIn spans m after y q ≡ leftIn spans m after y p
+      tries : p < length y → lastJump (ruleIn spans .fit) m (getD y p 0) ≡ 0
 
-    stays : (q p : ℕ) → p ≡ q → (q < length y → lastJump (nearBy (ruleIn spans) gamma) m (getD y q 0) ≡ 0) → Leads q p
+    stays : (q p : ℕ) → p ≡ q → (q < length y → lastJump (ruleIn spans .fit) m (getD y q 0) ≡ 0) → Leads q p
     stays q p e f = rw e (record { forth = omega arith; same = refl; tries = f })
 
     leads : (k q : ℕ) → length y ≤ k + q → m ≤ q + 1 → Leads q (seekBy table y k q)
@@ -97,7 +97,7 @@ module _ (spans table : List ℕ) (m gamma after : ℕ) (y : List ℕ) (w : Walk
     leads (suc k) q h from =
         ⊎-elim (λ (l : length y ≤ q). stays q _ (by-end table y (suc k) q l) (λ b. absurd (omega arith)))
         (λ (l : q < length y).
-        let jump : entry table y q ≡ lastJump (nearBy (ruleIn spans) gamma) m (getD y q 0) = w .jumps .at (getD y q 0) (readings q) in
+        let jump : entry table y q ≡ lastJump (ruleIn spans .fit) m (getD y q 0) = w .jumps .at (getD y q 0) (readings q) in
         ⊎-elim (λ t. let e = eqb-true (entry table y q) 0 t in stays q _ (by-here table y (suc k) q e) (λ b. sym jump ∙ e))
         (λ t. let n = eqb-false (entry table y q) 0 t in
         let on = leads k (q + entry table y q) (omega (arith, n)) (omega arith) in
@@ -118,13 +118,13 @@ module _ (spans table : List ℕ) (m gamma after : ℕ) (y : List ℕ) (w : Walk
     stands q p from l = record { walkable = w; readings = readings; from = omega (arith, l .forth); tries = l .tries }
 
     -- before the first window: the walk is what is left where the jumps lead from the last reading of the window at 0
-    pub stands-first : (p : ℕ) → p ≡ seek table y (m - 1) → Stands spans table m gamma after y p × (walkIn spans m gamma after y ≡ leftIn spans m gamma after y p)
+    pub stands-first : (p : ℕ) → p ≡ seek table y (m - 1) → Stands spans table m gamma after y p × (walkIn spans m after y ≡ leftIn spans m after y p)
     stands-first p e =
         let some = w .ready .some in
         let l = led (m - 1) p e (omega arith) in
         let none : m - 1 - (m - 1) ≡ 0 = omega arith in (
           stands (m - 1) p (omega arith) l,
-          last-start (ruleIn spans) m gamma (afterBy after) y some (w .safe) ∙ ap (left (nearBy (ruleIn spans) gamma) m (afterBy after) y) (sym none) ∙ l .same,
+          last-start (ruleIn spans) m gamma (afterBy after) y some (w .safe) ∙ ap (left (ruleIn spans .fit) m (afterBy after) y) (sym none) ∙ l .same,
         )
 
 -- after the window that it tries, where the jumps lead from there
@@ -139,12 +139,12 @@ module _ (spans table : List ℕ) (m gamma after : ℕ) (y : List ℕ) (q : ℕ)
     pub stands-forth : q < p
     stands-forth = omega (arith, next .forth, at .walkable .safe .forward (getD y q 0))
 
-    pub stands-try : leftIn spans m gamma after y q ≡ (q - (m - 1)) ∷ leftIn spans m gamma after y p
+    pub stands-try : leftIn spans m after y q ≡ (q - (m - 1)) ∷ leftIn spans m after y p
     stands-try =
         end-try (ruleIn spans) m gamma (afterBy after) y (at .walkable .ready .some) (at .walkable .safe) q (at .from) h (at .tries h)
         ∙ ap (λ (l : List ℕ). (q - (m - 1)) ∷ l) (next .same)
 
-  pub stands-end : length y ≤ q → leftIn spans m gamma after y q ≡ []
+  pub stands-end : length y ≤ q → leftIn spans m after y q ≡ []
   stands-end h =
       last-end (ruleIn spans) m gamma (afterBy after) y (at .walkable .ready .some) (at .walkable .safe) (q - (m - 1)) (omega (arith, at .walkable .ready .some))
 

@@ -6,7 +6,7 @@ use Prim.Native.Nat.{ℕ, _+_, _*_, _≤_, _<_, max}
 use native.Mathlib.Omega.{arith}
 use lib.ListN.{length, getD}
 use lib.Dec.{ltb}
-use Rattle.fit.specs.Rule.{nearBy, isPlaceBy}
+use Rattle.fit.specs.Rule.{isPlaceBy}
 use Rattle.fit.specs.Place.{fitOf, dOf, windows}
 use Rattle.fit.specs.Refusal.{maxPoints, Accepted}
 use Rattle.fit.specs.Spans.{ruleIn, spansOf}
@@ -31,8 +31,8 @@ pub record Prepared (delta gamma : ℕ) (x y : List ℕ) (d : ℕ) (spans next o
   pub ok : Accepted delta gamma x y
   pub readings : Readings y
   pub small : d ≡ dOf delta gamma
-  pub made : spans ≡ spansOf delta x
-  pub nexts : Holds (nextJump (nearBy (ruleIn spans) gamma) (length x)) 256 256 next
+  pub made : spans ≡ spansOf (dOf delta gamma) x
+  pub nexts : Holds (nextJump (ruleIn spans .fit) (length x)) 256 256 next
   pub orders : HoldsOrder d x order
   pub mismatches : Holds (mismatchJump d x) (length x) maxPoints jumps
   pub whole : full ≡ fullJump d x

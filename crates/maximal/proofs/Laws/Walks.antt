@@ -1,5 +1,5 @@
 -- Laws of maximal's walk: how it goes, that it rises, and that it has every place. Assumes nothing.
-use mathlib.Core.Path.{_≡_, refl, sym}
+use mathlib.Core.Path.{_≡_, refl, _∙_}
 use mathlib.Core.Bool.{Bool, true, false, cond}
 use mathlib.Core.Logic.{⊎-elim}
 use mathlib.Core.List.{List, [], _∷_, List·Memᴰ}
@@ -9,18 +9,17 @@ use lib.ListN.{length, getD}
 use lib.Dec.{ltb}
 use borrow.Author.Tests.{lt-ltb}
 use Rattle.fit.specs.Reading.{near}
-use Rattle.fit.specs.Rule.{readingAt, nearBy}
+use Rattle.fit.specs.Rule.{readingAt}
 use Rattle.fit.specs.Place.{fitOf, ruleOf, Place, dOf, windows}
 use Rattle.fit.specs.Listing.{Rising}
 use Rattle.fit.specs.Walk.{walkBy}
 use Rattle.fit.specs.Refusal.{Accepted}
 use Rattle.fit.proofs.Laws.Bools.{either, le-or-lt, not-both}
-use Rattle.fit.proofs.Laws.Places.{place-by, place-near, place-below, near-derived}
+use Rattle.fit.proofs.Laws.Places.{place-by, place-near, place-below, by-derived}
 use Rattle.fit.proofs.Laws.Steps.{from-start, from-try, from-end, walk-rises, walk-has}
 use Rattle.jumps.specs.Jumps.{nextJump}
 use Rattle.jumps.specs.Demand.{Readings}
 use Rattle.jumps.proofs.Laws.Sizes.{next-jump-ge, next-jump-le, mismatch-jump-le, full-jump-le}
-use Rattle.jumps.proofs.Laws.OneReading.{next-same}
 use Rattle.jumps.proofs.Laws.Keeps.{next-keeps, full-keeps, mismatch-keeps}
 use Rattle.comparing.specs.Leading.{leading}
 use Rattle.comparing.specs.Order.{compareOrder}
@@ -114,8 +113,7 @@ module _ (delta gamma : ℕ) (x y : List ℕ) (ok : Accepted delta gamma x y) (r
 
     next-reading-keeps : s + nextJump (fitOf d x) (length x) (readingAt y s (length x)) ≤ t
     next-reading-keeps =
-        rw (sym (next-same (nearBy (ruleOf delta x) gamma) (fitOf d x) (length x) (readingAt y s (length x)) (λ i l. near-derived delta gamma x i (readingAt y s (length x)))))
-        (next-keeps (ruleOf delta x) (length x) gamma (ok .asked .some) y s t (place-by delta gamma x y t place) (omega (arith, place .inside)) later)
+        next-keeps (ruleOf d x) (length x) gamma (ok .asked .some) y s t (by-derived delta gamma x y t ∙ place-by delta gamma x y t place) (omega (arith, place .inside)) later
 
     keeps : maximalNext d x y s ≤ t
     keeps = rw (next-inside d x y s (omega (arith, place .inside))) (omega (arith, compared-keeps, next-reading-keeps))

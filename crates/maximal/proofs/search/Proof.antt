@@ -49,7 +49,7 @@ d-requires c κs = search needs
 spans-of-requires : tie.Need-spans-of-requires Inv-loop μ-loop
 spans-of-requires c κs =
     let at = started (c .before .before) in
-    may-compile _ _ _ (at .ok .asked) (at .carries)
+    may-compile _ _ _ (at .ok .asked) (at .carries) (c .d .ensures)
 
 slice-aggregate-next-table : tie.Need-slice-aggregate-next-table Inv-loop μ-loop
 slice-aggregate-next-table c = search needs
@@ -57,8 +57,9 @@ slice-aggregate-next-table c = search needs
 next-table-requires : tie.Need-next-table-requires Inv-loop μ-loop
 next-table-requires c κs =
     let made = c .before in
-    let at = started (made .before .before .before) in
-    let fit = ready _ _ _ _ _ (told-spans _ _ _ (at .carries) (made .spans-of .ensures)) (at .ok) in
+    let small = made .before in
+    let at = started (small .before .before) in
+    let fit = ready _ _ _ _ _ (told-spans _ _ _ (at .carries) (small .d .ensures) (made .spans-of .ensures)) (at .ok) in
     (fit .full, fit .few)
 
 compared-of-requires : tie.Need-compared-of-requires Inv-loop μ-loop
@@ -90,7 +91,7 @@ loop-holds c =
         ok = at .ok;
         readings = λ i. omega (arith, readings .shared-slice-known2 .given i);
         small = told-d _ _ _ (at .carries) (small .d .ensures);
-        made = told-spans _ _ _ (at .carries) (made .spans-of .ensures);
+        made = told-spans _ _ _ (at .carries) (small .d .ensures) (made .spans-of .ensures);
         nexts = nexts .next-table .ensures;
         orders = compared .compared-of .ensures .0;
         mismatches = compared .compared-of .ensures .1;

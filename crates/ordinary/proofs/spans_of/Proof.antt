@@ -12,10 +12,10 @@ use Rattle.ordinary.proofs.spans_of.Statement.{statement}
 use Rattle.ordinary.proofs.spans_of.Tie as tie
 
 abbrev Inv-loop : tie.InvT-loop
-Inv-loop points m delta d spans₀ i₀ spans i = (i ≤ m) × (m ≤ maxPoints) × (delta ≤ maxDelta) × (length points ≡ maxPoints) × (spans ≡ overlay (spansFor delta (take i points)) (replicate (4 * maxPoints) 0))
+Inv-loop d points m reach spans₀ i₀ spans i = (i ≤ m) × (m ≤ maxPoints) × (d ≤ maxDelta) × (length points ≡ maxPoints) × (spans ≡ overlay (spansFor d (take i points)) (replicate (4 * maxPoints) 0))
 
 abbrev μ-loop : tie.MeasureT-loop
-μ-loop points m delta d spans₀ i₀ spans i = m - i
+μ-loop d points m reach spans₀ i₀ spans i = m - i
 
 points-requires : tie.Need-points-requires Inv-loop μ-loop
 points-requires c κs = search needs
@@ -23,14 +23,11 @@ points-requires c κs = search needs
 m-requires : tie.Need-m-requires Inv-loop μ-loop
 m-requires c κs = search needs
 
-delta-requires : tie.Need-delta-requires Inv-loop μ-loop
-delta-requires c κs = search needs
-
-cast-d : tie.Need-cast-d Inv-loop μ-loop
-cast-d c = omega arith
+cast-reach : tie.Need-cast-reach Inv-loop μ-loop
+cast-reach c = omega arith
 
 loop-holds : tie.Need-loop-holds Inv-loop μ-loop
-loop-holds c = (omega arith, omega arith, omega arith, search needs, spans-none _ (c .before .before .points .result) _)
+loop-holds c = (omega arith, omega arith, omega arith, search needs, spans-none _ (c .before .points .result) _)
 
 array-read-wide : tie.Need-array-read-wide Inv-loop μ-loop
 array-read-wide c = omega arith
@@ -113,10 +110,9 @@ loop-again c =
 
 returns : tie.Need-returns Inv-loop μ-loop
 returns c =
-    let at-delta = c .before .before in
-    let at-m = at-delta .before in
+    let at-m = c .before .before in
     let e : c .before .loop .i ≡ at-m .m .result = omega arith in
-    rw (← at-delta .delta .ensures, ← at-m .m .ensures, ← at-m .before .points .ensures, ← e) (c .before .loop .inv .4)
+    rw (← at-m .m .ensures, ← at-m .before .points .ensures, ← e) (c .before .loop .inv .4)
 
 pub spans-of-spec : {M : Type 1} → statement M
 spans-of-spec =
@@ -126,8 +122,7 @@ spans-of-spec =
     μ-loop
     points-requires
     m-requires
-    delta-requires
-    cast-d
+    cast-reach
     loop-holds
     array-read-wide
     wide-requires

@@ -45,10 +45,11 @@ module _ (delta gamma : ℕ) (x : List ℕ) {q : Checked} (e : q ≡ questionChe
     pub question-usable : (d : ℕ) → d ≡ dOf (q .tolerance .delta) (q .tolerance .gamma) → Usable d x
     question-usable d t = let p = posed delta gamma x e z in usable delta gamma x d (told-d delta gamma x (p .carries) t) (p .ok)
 
-    pub question-compiled : (spans : List ℕ) → spans ≡ spansOf (q .tolerance .delta) (pointsOf (q .profile)) → (4 * length x ≤ length spans) × (length x ≤ maxPoints)
-    question-compiled spans s =
+    pub question-compiled : (d : ℕ) (spans : List ℕ) → d ≡ dOf (q .tolerance .delta) (q .tolerance .gamma) → spans ≡ spansOf d (pointsOf (q .profile))
+        → (4 * length x ≤ length spans) × (length x ≤ maxPoints)
+    question-compiled d spans t s =
         let p = posed delta gamma x e z in
-        (compiled-long delta x spans (told-spans delta gamma x (p .carries) s) (p .ok .few), p .ok .few)
+        (compiled-long (dOf delta gamma) x spans (told-spans delta gamma x (p .carries) t s) (p .ok .few), p .ok .few)
 
 -- what the mismatch question knows past its refusals
 pub record MismatchPosed (delta gamma : ℕ) (x : List ℕ) (p : ℕ) (q : Checked) : Type 0 where

@@ -1,6 +1,7 @@
 -- Laws of scores: the score of a whole window says whether it is a place. Assumes nothing.
 use mathlib.Core.Path.{_≡_, ap, _∙_}
 use mathlib.Core.Bool.{Bool, true, false, cond, _&&_}
+use mathlib.Core.Logic.{⊎-elim}
 use mathlib.Core.List.{List}
 use Prim.Native.Nat.{ℕ, _+_, _≤_, min}
 use native.Mathlib.Omega.{arith}
@@ -8,13 +9,15 @@ use lib.ListN.{length, getD}
 use lib.Dec.{leb, eqb}
 use borrow.Author.Tests.{le-leb, lt-leb, leb-true}
 use Rattle.fit.specs.Rule.{Rule, readingAt, allFit, sumCost, isPlaceBy}
+use Rattle.fit.specs.Verdict.{verdictBy}
 use Rattle.fit.specs.Listing.{Entries}
 use Rattle.fit.specs.Refusal.{maxGamma}
-use Rattle.fit.proofs.Laws.Bools.{same-test}
+use Rattle.fit.proofs.Laws.Bools.{either, same-test}
 use Rattle.fit.proofs.Laws.Rules.{sum-none, sum-more}
+use Rattle.fit.proofs.Laws.Verdicts.{told-near, told-broken}
 use Rattle.fit.proofs.Laws.Entries.{entries-as}
 use Rattle.sieve.specs.Sieve.{mark}
-use Rattle.score.specs.Score.{mostScore, scoreOf}
+use Rattle.score.specs.Score.{mostScore, scoreIn, Scored, scoreAfter}
 
 -- ---- one window
 -- before its first point, by its mark
@@ -22,7 +25,7 @@ begun-by : (b : Bool) (v : ℕ) → v ≡ mark b → cond (eqb v 0) mostScore 0 
 begun-by true v e = rw e
 begun-by false v e = rw e
 
-begun-score : (r : Rule) (m : ℕ) (y : List ℕ) (s v : ℕ) → v ≡ mark (allFit (r .fit) y s m) → cond (eqb v 0) mostScore 0 ≡ scoreOf r m y 0 s
+begun-score : (r : Rule) (m : ℕ) (y : List ℕ) (s v : ℕ) → v ≡ mark (allFit (r .fit) y s m) → cond (eqb v 0) mostScore 0 ≡ scoreAfter r m y 0 s
 begun-score r m y s v e = rw (sum-none (r .cost) y s) (begun-by (allFit (r .fit) y s m) v e)
 
 -- one point more
@@ -30,12 +33,18 @@ added-by : (b : Bool) (sum cost : ℕ) → min (cond b (min sum mostScore) mostS
 added-by true sum cost = omega arith
 added-by false sum cost = omega arith
 
-pub added-score : (r : Rule) (m : ℕ) (y : List ℕ) (s k old v : ℕ) → old ≡ scoreOf r m y k s → v ≡ min (old + r .cost k (readingAt y s k)) mostScore
-    → v ≡ scoreOf r m y (k + 1) s
+pub added-score : (r : Rule) (m : ℕ) (y : List ℕ) (s k old v : ℕ) → old ≡ scoreAfter r m y k s → v ≡ min (old + r .cost k (readingAt y s k)) mostScore
+    → v ≡ scoreAfter r m y (k + 1) s
 added-score r m y s k old v e q =
     rw (sum-more (r .cost) y s k) (rw e at q ∙ added-by (allFit (r .fit) y s m) (sumCost (r .cost) y s k) (r .cost k (readingAt y s k)))
 
--- the whole score
+-- the whole score is what the check's answer says
+pub score-told : (r : Rule) (m gamma : ℕ) (y : List ℕ) (s : ℕ) → scoreAfter r m y m s ≡ scoreIn (verdictBy r m gamma y s)
+unfolding scoreIn
+score-told r m gamma y s =
+    ⊎-elim (λ (e : allFit (r .fit) y s m ≡ true). let told = told-near r m gamma y s e in rw (e, told .0, told .1))
+    (λ (e : allFit (r .fit) y s m ≡ false). let told = told-broken r m gamma y s e in rw (e, told)) (either (allFit (r .fit) y s m))
+
 cut-off : (b : Bool) (sum gamma : ℕ) → gamma ≤ maxGamma → leb (cond b (min sum mostScore) mostScore) gamma ≡ (b && leb sum gamma)
 cut-off true sum gamma h =
     same-test (leb (min sum mostScore) gamma) (leb sum gamma)
@@ -43,20 +52,22 @@ cut-off true sum gamma h =
     (λ e. le-leb (min sum mostScore) gamma (omega (arith, leb-true sum gamma e)))
 cut-off false sum gamma h = lt-leb mostScore gamma (omega arith)
 
-pub score-place : (r : Rule) (m gamma : ℕ) (y : List ℕ) (s : ℕ) → s + m ≤ length y → gamma ≤ maxGamma → leb (scoreOf r m y m s) gamma ≡ isPlaceBy r m gamma y s
+-- it is at most gamma exactly where the window is a place
+pub score-place : (r : Rule) (m gamma : ℕ) (y : List ℕ) (s : ℕ) → s + m ≤ length y → gamma ≤ maxGamma → leb (scoreIn (verdictBy r m gamma y s)) gamma ≡ isPlaceBy r m gamma y s
 unfolding isPlaceBy
 score-place r m gamma y s inside h =
-    rw (le-leb (s + m) (length y) inside) (cut-off (allFit (r .fit) y s m) (sumCost (r .cost) y s m) gamma h)
+    rw (le-leb (s + m) (length y) inside, ← score-told r m gamma y s) (cut-off (allFit (r .fit) y s m) (sumCost (r .cost) y s m) gamma h)
 
 -- ---- 64 windows: before their first point, and after their last
 pub scores-begun : (r : Rule) (m : ℕ) (y : List ℕ) (s : ℕ) {marks scores : List ℕ} → Entries (λ j. mark (allFit (r .fit) y (s + j) m)) 64 marks
-    → Entries (λ j. cond (eqb (getD marks j 0) 0) mostScore 0) 64 scores → Entries (λ j. scoreOf r m y 0 (s + j)) 64 scores
+    → Entries (λ j. cond (eqb (getD marks j 0) 0) mostScore 0) 64 scores → Entries (λ j. scoreAfter r m y 0 (s + j)) 64 scores
 scores-begun r m y s {marks} told e =
-    entries-as (λ j. cond (eqb (getD marks j 0) 0) mostScore 0) (λ j. scoreOf r m y 0 (s + j)) 64
+    entries-as (λ j. cond (eqb (getD marks j 0) 0) mostScore 0) (λ j. scoreAfter r m y 0 (s + j)) 64
     (λ j h. begun-score r m y (s + j) (getD marks j 0) (told .each j h)) e
 
-pub scores-all : (r : Rule) (m : ℕ) (y : List ℕ) (s i : ℕ) {scores : List ℕ} → i ≤ m → m ≤ i → Entries (λ j. scoreOf r m y i (s + j)) 64 scores
-    → Entries (λ j. scoreOf r m y m (s + j)) 64 scores
-scores-all r m y s i {scores} h l e =
+pub scores-all : (r : Rule) (m : ℕ) (y : List ℕ) (s i : ℕ) {scores : List ℕ} → i ≤ m → m ≤ i → Entries (λ j. scoreAfter r m y i (s + j)) 64 scores
+    → Scored r m y s scores
+scores-all r m y s i {scores} h l e gamma =
     let last : i ≡ m = omega arith in
-    entries-as (λ j. scoreOf r m y i (s + j)) (λ j. scoreOf r m y m (s + j)) 64 (λ j b. ap (λ (k : ℕ). scoreOf r m y k (s + j)) last) e
+    entries-as (λ j. scoreAfter r m y i (s + j)) (λ j. scoreIn (verdictBy r m gamma y (s + j))) 64
+    (λ j b. ap (λ (k : ℕ). scoreAfter r m y k (s + j)) last ∙ score-told r m gamma y (s + j)) e

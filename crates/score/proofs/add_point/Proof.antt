@@ -5,7 +5,7 @@ use lib.ListN.{length}
 use borrow.Author.Needs.{needs}
 use Rattle.fit.specs.Spans.{ruleIn}
 use Rattle.fit.proofs.Laws.Entries.{Rewritten, rewritten-none, rewritten-next, rewritten-all}
-use Rattle.score.specs.Score.{scoreOf}
+use Rattle.score.specs.Score.{scoreAfter}
 use Rattle.score.proofs.Laws.Scores.{added-score}
 use Rattle.score.proofs.add_point.Statement.{statement}
 use Rattle.score.proofs.add_point.Tie as tie
@@ -13,7 +13,7 @@ use Rattle.score.proofs.add_point.Tie as tie
 abbrev Inv-loop : tie.InvT-loop
 Inv-loop scores₀ spans m recording s i from to j₀ scores j =
     (4 * i + 3 < length spans) × (s + 63 + i < length recording)
-    × Rewritten (λ k. scoreOf (ruleIn spans) m recording i (s + k)) (λ k. scoreOf (ruleIn spans) m recording (i + 1) (s + k)) 64 scores j
+    × Rewritten (λ k. scoreAfter (ruleIn spans) m recording i (s + k)) (λ k. scoreAfter (ruleIn spans) m recording (i + 1) (s + k)) 64 scores j
 
 abbrev μ-loop : tie.MeasureT-loop
 μ-loop scores₀ spans m recording s i from to j₀ scores j = 64 - j

@@ -4,14 +4,14 @@ use native.Mathlib.Omega.{arith}
 use lib.ListN.{length}
 use Rattle.fit.specs.Listing.{Entries}
 use Rattle.fit.specs.Spans.{ruleIn}
-use Rattle.score.specs.Score.{scoreOf}
+use Rattle.score.specs.Score.{scoreAfter}
 use Rattle.score.proofs.Laws.Scores.{scores-begun, scores-all}
 use Rattle.score.proofs.scores.Statement.{statement}
 use Rattle.score.proofs.scores.Tie as tie
 
 abbrev Inv-loop : tie.InvT-loop
 Inv-loop spans m recording s marks scores₀ i₀ scores i =
-    (i ≤ m) × (4 * m ≤ length spans) × (s + 63 + m ≤ length recording) × Entries (λ j. scoreOf (ruleIn spans) m recording i (s + j)) 64 scores
+    (i ≤ m) × (4 * m ≤ length spans) × (s + 63 + m ≤ length recording) × Entries (λ j. scoreAfter (ruleIn spans) m recording i (s + j)) 64 scores
 
 abbrev μ-loop : tie.MeasureT-loop
 μ-loop spans m recording s marks scores₀ i₀ scores i = m - i

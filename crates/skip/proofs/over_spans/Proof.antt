@@ -4,10 +4,9 @@ use Prim.Native.Nat.{_+_, _-_, _≤_}
 use native.Mathlib.Omega.{arith}
 use lib.ListN.{length}
 use borrow.Author.Needs.{needs}
-use Rattle.fit.specs.Rule.{nearBy}
 use Rattle.fit.specs.Spans.{ruleIn, Ready}
 use Rattle.fit.specs.Answer.{soughtBy, lent}
-use Rattle.fit.proofs.Laws.Rules.{by-below, by-inside, by-near}
+use Rattle.fit.proofs.Laws.Rules.{by-below, by-inside, by-fit}
 use Rattle.fit.proofs.Laws.Alongs.{Along, along-start, along-same, along-end}
 use Rattle.skip.specs.Walk.{probes, skipWalk}
 use Rattle.skip.proofs.Laws.Walks.{walk-start, walk-end, walk-rises, walk-has, along-probe}
@@ -17,8 +16,8 @@ use Rattle.skip.proofs.over_spans.Tie as tie
 abbrev Inv-loop : tie.InvT-loop
 Inv-loop spans m gamma recording list₀ found₀ q₀ list found q =
     Ready spans m gamma (length recording) × (m ≤ q + 1)
-    × Along (soughtBy (ruleIn spans) m gamma recording) (skipWalk (nearBy (ruleIn spans) gamma) m recording)
-    (probes (nearBy (ruleIn spans) gamma) m recording (length recording - q) q) (q + 1 - m) (lent list₀) (lent list) found
+    × Along (soughtBy (ruleIn spans) m gamma recording) (skipWalk (ruleIn spans .fit) m recording)
+    (probes (ruleIn spans .fit) m recording (length recording - q) q) (q + 1 - m) (lent list₀) (lent list) found
 
 abbrev μ-loop : tie.MeasureT-loop
 μ-loop spans m gamma recording list₀ found₀ q₀ list found q = length recording - q
@@ -53,7 +52,7 @@ returns : tie.Need-returns Inv-loop μ-loop
 returns c =
     let inv = c .before .loop .inv in
     along-end _ _ _ _ (λ s p. by-below _ _ _ _ s p) refl (walk-rises _ _ _ (inv .0 .some))
-    (λ s p. walk-has _ _ _ s (inv .0 .some) (by-inside _ _ _ _ s p) (by-near _ _ _ _ s p))
+    (λ s p. walk-has _ _ _ s (inv .0 .some) (by-inside _ _ _ _ s p) (by-fit _ _ _ _ s p))
     (along-same (walk-end _ _ _ _ (omega arith)) (inv .2))
 
 pub over-spans-spec : {M : Type 1} → statement M

@@ -19,10 +19,14 @@ begin-requires c κs = search needs
 returns : tie.Need-returns
 returns c = refused _ _ _ _ (begins _ _ _ _ (c .before .before .before .checked-search .ensures) (c .before .before .begin .ensures)) (c .if1 .taken)
 
+d-requires : tie.Need-d-requires
+d-requires c κs = search needs
+
 spans-of-requires : tie.Need-spans-of-requires
 spans-of-requires c κs =
-    let known = underway _ _ _ _ (c .before .before .before .checked-search .ensures) (c .before .before .begin .ensures) (c .if1 .left) in
-    may-compile _ _ _ (known .ok .asked) (known .carries)
+    let past = c .before .before in
+    let known = underway _ _ _ _ (past .before .before .before .checked-search .ensures) (past .before .before .begin .ensures) (past .if1 .left) in
+    may-compile _ _ _ (known .ok .asked) (known .carries) (c .d .ensures)
 
 slice-aggregate-over-spans : tie.Need-slice-aggregate-over-spans
 slice-aggregate-over-spans c = search needs
@@ -30,9 +34,10 @@ slice-aggregate-over-spans c = search needs
 over-spans-requires : tie.Need-over-spans-requires
 over-spans-requires c κs =
     let made = c .before .before in
-    let past = made .before in
+    let small = made .before in
+    let past = small .before .before in
     let known = underway _ _ _ _ (past .before .before .before .checked-search .ensures) (past .before .before .begin .ensures) (past .if1 .left) in
-    (ready _ _ _ _ _ (told-spans _ _ _ (known .carries) (made .spans-of .ensures)) (known .ok), known .none)
+    (ready _ _ _ _ _ (told-spans _ _ _ (known .carries) (small .d .ensures) (made .spans-of .ensures)) (known .ok), known .none)
 
 same-length : tie.Need-same-length
 same-length c = search needs
@@ -41,9 +46,10 @@ returns-2 : tie.Need-returns-2
 returns-2 c =
     let done = c .before .before in
     let made = done .before .before .before in
-    let past = made .before in
+    let small = made .before in
+    let past = small .before .before in
     let known = underway _ _ _ _ (past .before .before .before .checked-search .ensures) (past .before .before .begin .ensures) (past .if1 .left) in
-    let spans = told-spans _ _ _ (known .carries) (made .spans-of .ensures) in
+    let spans = told-spans _ _ _ (known .carries) (small .d .ensures) (made .spans-of .ensures) in
     compiled-answer _ _ _ _ _ spans (known .ok) _ _ (ap length (same-walk _ _ _ (compiled-near _ _ _ _ spans (known .ok .asked .few)) _)) (done .over-spans .ensures)
 
 pub search-spec : {M : Type 1} → statement M
@@ -53,6 +59,7 @@ search-spec =
     checked-search-requires
     begin-requires
     returns
+    d-requires
     spans-of-requires
     slice-aggregate-over-spans
     over-spans-requires

@@ -4,7 +4,6 @@ use Prim.Native.Nat.{_+_, _-_, _≤_, _<_}
 use native.Mathlib.Omega.{arith}
 use lib.ListN.{length}
 use borrow.Author.Needs.{needs}
-use Rattle.fit.specs.Rule.{nearBy}
 use Rattle.fit.specs.Spans.{ruleIn, Ready}
 use Rattle.fit.specs.Answer.{soughtBy, lent}
 use Rattle.skip.specs.Walk.{probed}
@@ -16,8 +15,8 @@ use Rattle.skip.proofs.try_probed.Tie as tie
 abbrev Inv-loop : tie.InvT-loop
 Inv-loop spans m gamma recording list₀ q n a found₀ i₀ list found i =
     Ready spans m gamma (length recording) × (q < length recording) × (m ≤ q + 1) × (i ≤ m)
-    × Trying (soughtBy (ruleIn spans) m gamma recording) (probed (nearBy (ruleIn spans) gamma) m recording q m)
-    (probed (nearBy (ruleIn spans) gamma) m recording q i) (q + 1 - i) (lent list₀) (lent list) found₀ found
+    × Trying (soughtBy (ruleIn spans) m gamma recording) (probed (ruleIn spans .fit) m recording q m)
+    (probed (ruleIn spans .fit) m recording q i) (q + 1 - i) (lent list₀) (lent list) found₀ found
 
 abbrev μ-loop : tie.MeasureT-loop
 μ-loop spans m gamma recording list₀ q n a found₀ i₀ list found i = i
@@ -33,8 +32,8 @@ loop-holds c =
 sub-i : tie.Need-sub-i Inv-loop μ-loop
 sub-i c = omega arith
 
-may-stand-requires : tie.Need-may-stand-requires Inv-loop μ-loop
-may-stand-requires c κs = omega arith
+suits-requires : tie.Need-suits-requires Inv-loop μ-loop
+suits-requires c κs = omega arith
 
 sub-if2 : tie.Need-sub-if2 Inv-loop μ-loop
 sub-if2 c = omega arith
@@ -63,7 +62,7 @@ loop-again c =
       inv .2,
       omega arith,
       trying-next _ _ _ _ (inv .4)
-          (probed-try _ _ _ _ _ (at-test .loop-test .taken) (sym (near .before .may-stand .ensures) ∙ near .if1 .taken) (inside .if2 .taken))
+          (probed-try _ _ _ _ _ (at-test .loop-test .taken) (sym (near .before .suits .ensures) ∙ near .if1 .taken) (inside .if2 .taken))
           (tried .try-at .ensures) (omega arith),
     )
 
@@ -80,7 +79,7 @@ loop-again-2 c =
       inv .2,
       omega arith,
       trying-pass _ _ _ (inv .4)
-          (probed-out _ _ _ _ _ (at-test .loop-test .taken) (sym (near .before .may-stand .ensures) ∙ near .if1 .taken) (c .if2 .left))
+          (probed-out _ _ _ _ _ (at-test .loop-test .taken) (sym (near .before .suits .ensures) ∙ near .if1 .taken) (c .if2 .left))
           (omega arith),
     )
 
@@ -95,7 +94,7 @@ loop-again-3 c =
       inv .1,
       inv .2,
       omega arith,
-      trying-pass _ _ _ (inv .4) (probed-far _ _ _ _ _ (at-test .loop-test .taken) (sym (c .before .may-stand .ensures) ∙ c .if1 .left)) (omega arith),
+      trying-pass _ _ _ (inv .4) (probed-far _ _ _ _ _ (at-test .loop-test .taken) (sym (c .before .suits .ensures) ∙ c .if1 .left)) (omega arith),
     )
 
 same-length : tie.Need-same-length Inv-loop μ-loop
@@ -116,7 +115,7 @@ try-probed-spec =
     shared-slice-read-a
     loop-holds
     sub-i
-    may-stand-requires
+    suits-requires
     sub-if2
     add-if2
     sub-try-at

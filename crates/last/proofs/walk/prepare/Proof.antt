@@ -23,34 +23,37 @@ checked-search-requires c κs = search needs
 returns : tie.Need-returns
 returns c = prepared-refused _ _ _ _ (c .before .before .checked-search .ensures) (c .if1 .taken)
 
-spans-of-requires : tie.Need-spans-of-requires
-spans-of-requires c κs = may-compile _ _ _ (started c .ok .asked) (started c .carries)
-
 d-requires : tie.Need-d-requires
 d-requires c κs = search needs
 
+spans-of-requires : tie.Need-spans-of-requires
+spans-of-requires c κs = let at = started (c .before .before) in may-compile _ _ _ (at .ok .asked) (at .carries) (c .d .ensures)
+
 after-jump-requires : tie.Need-after-jump-requires
 after-jump-requires c κs =
-    let at = started (c .before .before .before) in
-    usable _ _ _ _ (told-d _ _ _ (at .carries) (c .d .ensures)) (at .ok .asked)
+    let small = c .before in
+    let at = started (small .before .before) in
+    usable _ _ _ _ (told-d _ _ _ (at .carries) (small .d .ensures)) (at .ok .asked)
 
 slice-aggregate-last-table : tie.Need-slice-aggregate-last-table
 slice-aggregate-last-table c = search needs
 
 last-table-requires : tie.Need-last-table-requires
 last-table-requires c κs =
-    let made = c .before .before .before .before in
-    let at = started (made .before) in
-    let fit = ready _ _ _ _ _ (told-spans _ _ _ (at .carries) (made .spans-of .ensures)) (at .ok) in
+    let made = c .before .before in
+    let small = made .before in
+    let at = started (small .before .before) in
+    let fit = ready _ _ _ _ _ (told-spans _ _ _ (at .carries) (small .d .ensures) (made .spans-of .ensures)) (at .ok) in
     (fit .full, fit .few)
 
 returns-2 : tie.Need-returns-2
 returns-2 c =
     let jumped = c .before .before in
-    let made = jumped .before .before .before in
-    let at = started (made .before) in
-    prepared-made _ _ _ _ (at .ok) (told-spans _ _ _ (at .carries) (made .spans-of .ensures)) (c .last-table .ensures)
-    (jumped .after-jump .ensures) (told-d _ _ _ (at .carries) (jumped .before .d .ensures))
+    let made = jumped .before in
+    let small = made .before in
+    let at = started (small .before .before) in
+    prepared-made _ _ _ _ (at .ok) (told-spans _ _ _ (at .carries) (small .d .ensures) (made .spans-of .ensures)) (c .last-table .ensures)
+    (jumped .after-jump .ensures) (told-d _ _ _ (at .carries) (small .d .ensures))
 
 pub prepare-spec : {M : Type 1} → statement M
 prepare-spec =
@@ -58,8 +61,8 @@ prepare-spec =
     (tie.spec
     checked-search-requires
     returns
-    spans-of-requires
     d-requires
+    spans-of-requires
     after-jump-requires
     slice-aggregate-last-table
     last-table-requires

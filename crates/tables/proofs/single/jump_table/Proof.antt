@@ -2,7 +2,6 @@
 use Prim.Native.Nat.{ℕ, _-_, _≤_}
 use mathlib.Core.Path.{ap}
 use native.Mathlib.Omega.{arith}
-use Rattle.fit.specs.Rule.{nearBy}
 use Rattle.fit.specs.Spans.{ruleIn}
 use Rattle.jumps.specs.Least.{greatest}
 use Rattle.tables.specs.Holding.{Holds}
@@ -11,10 +10,10 @@ use Rattle.tables.proofs.single.jump_table.Statement.{statement}
 use Rattle.tables.proofs.single.jump_table.Tie as tie
 
 abbrev Inv-loop : tie.InvT-loop
-Inv-loop spans m gamma top table₀ a₀ table a = (a ≤ 256) × Holds (λ b. top - greatest (λ i. nearBy (ruleIn spans) gamma i b) m) a 256 table
+Inv-loop spans m top table₀ a₀ table a = (a ≤ 256) × Holds (λ b. top - greatest (λ i. ruleIn spans .fit i b) m) a 256 table
 
 abbrev μ-loop : tie.MeasureT-loop
-μ-loop spans m gamma top table₀ a₀ table a = 256 - a
+μ-loop spans m top table₀ a₀ table a = 256 - a
 
 loop-holds : tie.Need-loop-holds Inv-loop μ-loop
 loop-holds c = (omega arith, holds-none _ 256)
