@@ -32,9 +32,11 @@ pub fn search(points: &[u8], delta: u32, gamma: u32, recording: &[u8], list: &mu
     let mut s = 0;
     while s < count {
         let leading = step::near_points(points, d, &order, recording, s);
-        found = step::try_compared(&spans, m, gamma, recording, list, s, leading, found);
+        // the jump is looked up before the window is tried: so the compiler keeps in registers what each step needs
         let jump = step::compared_jump(m, &order, &jumps, full, leading);
-        s += step::larger_jump(&next, m, recording, s, jump);
+        let larger = step::larger_jump(&next, m, recording, s, jump);
+        found = step::try_compared(&spans, m, gamma, recording, list, s, leading, found);
+        s += larger;
     }
     found
 }

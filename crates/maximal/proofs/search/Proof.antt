@@ -8,7 +8,7 @@ use Rattle.fit.specs.Answer.{soughtBy, lent}
 use Rattle.fit.proofs.Laws.Answers.{refused, begins}
 use Rattle.fit.proofs.Laws.Constructed.{told-d, told-spans}
 use Rattle.fit.proofs.Laws.Openings.{Underway, underway, may-compile}
-use Rattle.fit.proofs.Laws.Compiled.{ready}
+use Rattle.fit.proofs.Laws.Compiled.{ready, compiled-size}
 use Rattle.fit.proofs.Laws.Alongs.{Along, along-start, along-same}
 use Rattle.tables.proofs.Laws.Holdings.{usable}
 use Rattle.maximal.specs.Walk.{maximalWalk}
@@ -109,20 +109,6 @@ near-points-requires c κs =
     let known = c .before .before .loop .inv .0 in
     (known .orders, known .ok .asked .few, window-inside known _ (c .before .loop-test .taken))
 
-slice-aggregate-try-compared : tie.Need-slice-aggregate-try-compared Inv-loop μ-loop
-slice-aggregate-try-compared c = search needs
-
-try-compared-requires : tie.Need-try-compared-requires Inv-loop μ-loop
-try-compared-requires c κs =
-    let compared = c .before .before in
-    let at-test = compared .before .before in
-    let known = at-test .before .loop .inv .0 in
-    let inside = window-inside known _ (at-test .loop-test .taken) in
-    let fit = spans-ready known in (
-      (fit .0, fit .1, inside, known .ok .asked .gamma-small),
-      ((omega (arith, known .ok .short), omega (arith, known .ok .short), omega (arith, known .ok .short)), far-false known _ _ (compared .near-points .ensures .0)),
-    )
-
 slice-aggregate-compared-jump : tie.Need-slice-aggregate-compared-jump Inv-loop μ-loop
 slice-aggregate-compared-jump c = search needs
 
@@ -131,42 +117,61 @@ slice-aggregate-compared-jump-2 c = search needs
 
 compared-jump-requires : tie.Need-compared-jump-requires Inv-loop μ-loop
 compared-jump-requires c κs =
-    let compared = c .before .before .before .before .before .before .before in
+    let compared = c .before .before in
     table-inside (compared .before .before .before .loop .inv .0) _ _ (compared .near-points .ensures .0)
 
 larger-jump-requires : tie.Need-larger-jump-requires Inv-loop μ-loop
 larger-jump-requires c κs =
-    let at-test = c .before .before .before .before .before .before .before .before .before .before .before in
+    let at-test = c .before .before .before .before .before .before in
     window-inside (at-test .before .loop .inv .0) _ (at-test .loop-test .taken)
+
+slice-aggregate-try-compared : tie.Need-slice-aggregate-try-compared Inv-loop μ-loop
+slice-aggregate-try-compared c =
+    let known = c .before .before .before .before .before .before .before .before .before .loop .inv .0 in
+    omega (arith, compiled-size _ _ _ (known .made))
+
+try-compared-requires : tie.Need-try-compared-requires Inv-loop μ-loop
+try-compared-requires c κs =
+    let compared = c .before .before .before .before .before .before .before in
+    let at-test = compared .before .before in
+    let known = at-test .before .loop .inv .0 in
+    let inside = window-inside known _ (at-test .loop-test .taken) in
+    let fit = spans-ready known in (
+      (fit .0, fit .1, inside, known .ok .asked .gamma-small),
+      ((omega (arith, known .ok .short), omega (arith, known .ok .short), omega (arith, known .ok .short)), far-false known _ _ (compared .near-points .ensures .0)),
+    )
 
 add-s : tie.Need-add-s Inv-loop μ-loop
 add-s c =
-    let jumped = c .before .before in
-    let compared = jumped .before .before .before .before .before .before .before .before in
+    let larger = c .before .before .before .before .before in
+    let jumped = larger .before .before in
+    let compared = jumped .before .before .before in
     let at-test = compared .before .before in
     let known = at-test .before .loop .inv .0 in
     omega
-    (arith, goes-on known _ _ _ _ (compared .near-points .ensures .0) (jumped .compared-jump .ensures) (c .larger-jump .ensures), on-forward known _ (at-test .loop-test .taken), known .ok .short, known .ok .asked .few, known .counted)
+    (arith, goes-on known _ _ _ _ (compared .near-points .ensures .0) (jumped .compared-jump .ensures) (larger .larger-jump .ensures), on-forward known _ (at-test .loop-test .taken), known .ok .short, known .ok .asked .few, known .counted)
 
 loop-less : tie.Need-loop-less Inv-loop μ-loop
 loop-less c =
-    let jumped = c .before .before in
-    let compared = jumped .before .before .before .before .before .before .before .before in
+    let larger = c .before .before .before .before .before in
+    let jumped = larger .before .before in
+    let compared = jumped .before .before .before in
     let at-test = compared .before .before in
     let known = at-test .before .loop .inv .0 in
     omega
-    (arith, goes-on known _ _ _ _ (compared .near-points .ensures .0) (jumped .compared-jump .ensures) (c .larger-jump .ensures), on-forward known _ (at-test .loop-test .taken))
+    (arith, goes-on known _ _ _ _ (compared .near-points .ensures .0) (jumped .compared-jump .ensures) (larger .larger-jump .ensures), on-forward known _ (at-test .loop-test .taken))
 
 loop-again : tie.Need-loop-again Inv-loop μ-loop
 loop-again c =
-    let jumped = c .before .before in
-    let tried = jumped .before .before .before .before .before in
-    let compared = tried .before .before .before in
+    let tried = c .before .before in
+    let larger = tried .before .before .before in
+    let jumped = larger .before .before in
+    let compared = jumped .before .before .before in
     let at-test = compared .before .before in
     let inv = at-test .before .loop .inv in (
       inv .0,
       along-step (inv .0) _ _ _ (at-test .loop-test .taken)
-          (goes-on (inv .0) _ _ _ _ (compared .near-points .ensures .0) (jumped .compared-jump .ensures) (c .larger-jump .ensures)) (inv .1) (tried .try-compared .ensures),
+          (goes-on (inv .0) _ _ _ _ (compared .near-points .ensures .0) (jumped .compared-jump .ensures) (larger .larger-jump .ensures)) (inv .1) (tried .try-compared .ensures),
     )
 
 same-length : tie.Need-same-length Inv-loop μ-loop
@@ -194,12 +199,12 @@ search-spec =
     loop-holds
     slice-aggregate-near-points
     near-points-requires
-    slice-aggregate-try-compared
-    try-compared-requires
     slice-aggregate-compared-jump
     slice-aggregate-compared-jump-2
     compared-jump-requires
     larger-jump-requires
+    slice-aggregate-try-compared
+    try-compared-requires
     add-s
     loop-less
     loop-again
