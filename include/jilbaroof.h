@@ -1,13 +1,15 @@
-/* Jilbaroof for C: find a pressure profile in a recording, all its places or the first, and ask how far a search may jump.
+/* Jilbaroof for C: find a pressure profile in a recording, all its places or the first, ask how far a search may jump, and why a window is
+ * no place.
  *
  * A reading is a byte: a pressure from 1 to 255, or 0 where the sensor had lost contact. A profile is 1 to 64 pressures, called points; a
  * recording is up to 1,000,000 readings. The window at s is the m readings from position s on, for a profile of m points. s is a place when
  * every difference between a point and its reading is at most delta, the sum of the m differences at most gamma, and none of the readings
  * is 0: a window holding a 0 is no place, whatever the tolerances. Positions and places count from 0.
  *
- * Who checks what. The library checks every value: it takes any points, any recording, any delta and gamma, any reading and any point
- * number, and answers or refuses by a number (below); nothing a caller can pass as a value makes it fail. It allocates nothing, and keeps
- * nothing after it returns. What it answers is proved, for every input. The caller answers for the memory, which the library cannot check:
+ * Who checks what. The library checks every value: it takes any points, any recording, any delta and gamma, any reading, any point number
+ * and any position, and answers or refuses by a number (below); nothing a caller can pass as a value makes it fail. It allocates nothing, and
+ * keeps nothing after it returns. What it answers is proved, for every input. The caller answers for the memory, which the library cannot
+ * check:
  *   - a pointer and the length behind it name that many entries, of a recording or profile to be read, of a list to be written;
  *   - the list shares no memory with the points or the recording, nothing else writes any of them during the call, and nothing else
  *     reads the list.
@@ -20,8 +22,8 @@
  *   7  the profile has more than 64 points, and must be cut
  *   8  the profile holds a 0, which says that contact was lost: every point must be a pressure, 1 to 255
  *   2  delta is above 255, or gamma above 16,320
- *   3  the recording has more than 1,000,000 readings (searchers and jilbaroof_first)
- *   6  the point number is 0 or above m (jilbaroof_mismatch)
+ *   3  the recording has more than 1,000,000 readings (searchers, jilbaroof_first and jilbaroof_check)
+ *   6  the point number is 0 or above m (jilbaroof_mismatch), or s has no window: s + m is above n (jilbaroof_check)
  * (4 is no longer given: it was jilbaroof_packed's, for counters that do not fit one word. The number is not used again. 5 belongs to the
  * program `places` and is never given here.)
  */
@@ -50,11 +52,26 @@ typedef struct {
     size_t tried;     /* how many windows were tried */
 } jilbaroof_first_place;
 
-/* What a question answers. */
+/* What each of the five questions about jumps answers. */
 typedef struct {
     uint32_t refusal; /* 0, or why the question was refused */
     size_t jump;      /* the jump: from the window at s to the window at s + jump */
 } jilbaroof_jump;
+
+/* The kinds of verdict. Near means the same as for the questions below. */
+enum {
+    JILBAROOF_FAR = 0,  /* some reading is not near its point */
+    JILBAROOF_FITS = 1, /* the window is a place */
+    JILBAROOF_OVER = 2  /* every reading is near its point, and the sum of the differences is above gamma */
+};
+
+/* What jilbaroof_check answers. */
+typedef struct {
+    uint32_t refusal; /* 0, or why the call was refused; look at it first, since a refused call has kind 0 as well */
+    uint32_t kind;    /* JILBAROOF_FAR, JILBAROOF_FITS or JILBAROOF_OVER */
+    size_t point;     /* where it is far: the number of the first point, from 1 on, whose reading is not near; else 0 */
+    uint32_t sum;     /* where it fits or is over: the sum of the differences; else 0 */
+} jilbaroof_verdict;
 
 /* The five searchers. All find the same places: list receives the first of them in rising order, as many as fit, and keeps every other
  * entry. They differ in which windows they try, and so in time and in `tried`. */
@@ -107,6 +124,11 @@ jilbaroof_jump jilbaroof_full(const uint8_t *points, size_t m, uint32_t delta, u
  * for which there is no point q - k, or some reading from 1 to 255 is near point q - k and not near point q. Points are compared by falling
  * lone jump, and of two with the same the one of the higher number first. */
 jilbaroof_jump jilbaroof_mismatch(const uint8_t *points, size_t m, uint32_t delta, uint32_t gamma, size_t p);
+
+/* Why is the window at s no place? A point that is not near is told before any sum. Where gamma is below delta, a reading that differs by more
+ * than gamma is not near. It fits exactly where the searchers list s. */
+jilbaroof_verdict jilbaroof_check(const uint8_t *points, size_t m, uint32_t delta, uint32_t gamma,
+                                  const uint8_t *recording, size_t n, size_t s);
 
 #ifdef __cplusplus
 }

@@ -1,7 +1,7 @@
 //! Jilbaroof for Rust: a safe wrapper of the proved library, standard library only. tools/archive builds it, as the library `jilbaroof`;
 //! or it is a module of the crate that links the archive (README, "From C and Rust").
 //!
-//! Which side checks what. The library checks every value (points, tolerances, lengths, point numbers) and answers or refuses by a
+//! Which side checks what. The library checks every value (points, tolerances, lengths, point numbers, positions) and answers or refuses by a
 //! number (below); that each answer is the one its definition gives is proved. What it takes for granted is memory: that a slice is valid
 //! for its length, and that the lent list shares no memory with what is read. Rust's types guarantee just that, so nothing is checked
 //! here, and every function is safe for every argument. The calls below are the only `unsafe` code.
@@ -14,8 +14,8 @@
 //! - 7: the profile has more than 64 points, and must be cut
 //! - 8: the profile holds a 0, which says that contact was lost: every point must be a pressure, 1 to 255
 //! - 2: delta is above 255, or gamma above 16,320
-//! - 3: the recording has more than 1,000,000 readings (searchers and `first`)
-//! - 6: there is no point of that number (`mismatch`)
+//! - 3: the recording has more than 1,000,000 readings (searchers, `first` and `check`)
+//! - 6: there is no point of that number (`mismatch`), or no window at that position (`check`)
 //!
 //! (4 is no longer given: it was `packed`'s, for counters that do not fit one word. The number is not used again. 5 belongs to the program
 //! `places` and is never given here.)
@@ -46,6 +46,24 @@ pub struct First {
 pub struct Jump {
     pub refusal: u32,
     pub jump: usize,
+}
+
+/// Why a window is no place, or how closely it is one.
+#[derive(Clone, Copy, Debug, PartialEq, Eq)]
+pub enum Verdict {
+    /// The window is a place, and this is the sum of its differences.
+    Fits(u32),
+    /// The number, from 1 on, of the first point whose reading is not near.
+    Far(usize),
+    /// Every reading is near its point, and this is the sum of the differences, which is above gamma.
+    Over(u32),
+}
+
+/// What `check` answers: the number of its refusal and `Far(0)`, since no point has the number 0; or 0 and the verdict.
+#[derive(Clone, Copy, Debug, PartialEq, Eq)]
+pub struct Judged {
+    pub refusal: u32,
+    pub verdict: Verdict,
 }
 
 /// The C side: a slice is its pointer, then its length. These lines repeat crates/exports/src/lib.rt, and nothing but the tests holds
@@ -81,6 +99,16 @@ mod boundary {
         pub tried: usize,
     }
 
+    /// `Judged` as C has it: `kind` is 0 where a point is far, 1 where the window fits, 2 where its sum is over; `point` and `sum` are 0 where the
+    /// kind has none, and all three on refusal.
+    #[repr(C)]
+    pub struct FlatVerdict {
+        pub refusal: u32,
+        pub kind: u32,
+        pub point: usize,
+        pub sum: u32,
+    }
+
     unsafe extern "C" {
         pub fn jilbaroof_first(points: *const u8, m: usize, delta: u32, gamma: u32, recording: *const u8, n: usize) -> Flat;
         pub fn jilbaroof_last_reading(points: *const u8, m: usize, delta: u32, gamma: u32, a: u8) -> Jump;
@@ -88,6 +116,15 @@ mod boundary {
         pub fn jilbaroof_after_check(points: *const u8, m: usize, delta: u32, gamma: u32) -> Jump;
         pub fn jilbaroof_full(points: *const u8, m: usize, delta: u32, gamma: u32) -> Jump;
         pub fn jilbaroof_mismatch(points: *const u8, m: usize, delta: u32, gamma: u32, p: usize) -> Jump;
+        pub fn jilbaroof_check(
+            points: *const u8,
+            m: usize,
+            delta: u32,
+            gamma: u32,
+            recording: *const u8,
+            n: usize,
+            s: usize,
+        ) -> FlatVerdict;
     }
 }
 
@@ -170,4 +207,18 @@ pub fn full(points: &[u8], delta: u32, gamma: u32) -> Jump {
 /// The mismatch jump at point number `p`, from 1 to m: it was not near, and the points compared before it were.
 pub fn mismatch(points: &[u8], delta: u32, gamma: u32, p: usize) -> Jump {
     unsafe { boundary::jilbaroof_mismatch(points.as_ptr(), points.len(), delta, gamma, p) }
+}
+
+/// Why the window at `s` is no place: the first point, in point order, that is not near; or, where all are near, the sum that is above gamma.
+/// It fits exactly where the searchers list `s`.
+pub fn check(points: &[u8], delta: u32, gamma: u32, recording: &[u8], s: usize) -> Judged {
+    // SAFETY: the slices are valid for their lengths and only read
+    let flat =
+        unsafe { boundary::jilbaroof_check(points.as_ptr(), points.len(), delta, gamma, recording.as_ptr(), recording.len(), s) };
+    let verdict = match flat.kind {
+        1 => Verdict::Fits(flat.sum),
+        2 => Verdict::Over(flat.sum),
+        _ => Verdict::Far(flat.point),
+    };
+    Judged { refusal: flat.refusal, verdict }
 }

@@ -82,6 +82,11 @@ static int tells(jilbaroof_first_place got, uint32_t refusal, uint32_t found, si
     return got.refusal == refusal && got.found == found && got.place == place && got.tried == tried;
 }
 
+static int judges(jilbaroof_verdict got, uint32_t refusal, uint32_t kind, size_t point, uint32_t sum)
+{
+    return got.refusal == refusal && got.kind == kind && got.point == point && got.sum == sum;
+}
+
 static int says(jilbaroof_jump got, uint32_t refusal, size_t jump)
 {
     return got.refusal == refusal && got.jump == jump;
@@ -210,6 +215,57 @@ static void first_limits(void)
     hold("first, widest", tells(jilbaroof_first(P, 3, 255, 16320, L + 1, 13), 0, 1, 0, 1));
 }
 
+/* E4 and E5 at windows of each kind, the last window among them; a point that is far by gamma alone, and one behind a sum above g; readings of
+ * 0, each within delta; sums of 64 points that 8 bits do not hold; a position that 16 bits do not hold. */
+static void check(void)
+{
+    static const uint8_t pair[] = {10, 10}, three[] = {10, 10, 10}, late[] = {13, 13, 14};
+    uint8_t high[64];
+    for (size_t i = 0; i < sizeof high; i++)
+        high[i] = 255;
+    hold("check, E4 at 0", judges(jilbaroof_check(P, 3, 1, 2, L, 14, 0), 0, JILBAROOF_FITS, 0, 0));
+    hold("check, E4 at 1", judges(jilbaroof_check(P, 3, 1, 2, L, 14, 1), 0, JILBAROOF_FAR, 1, 0));
+    hold("check, E4 at 3", judges(jilbaroof_check(P, 3, 1, 2, L, 14, 3), 0, JILBAROOF_OVER, 0, 3));
+    hold("check, E4 at 6", judges(jilbaroof_check(P, 3, 1, 2, L, 14, 6), 0, JILBAROOF_FITS, 0, 2));
+    hold("check, E4 at 11", judges(jilbaroof_check(P, 3, 1, 2, L, 14, 11), 0, JILBAROOF_FAR, 3, 0));
+    hold("check, E5 at 3", judges(jilbaroof_check(P, 3, 1, 3, L, 14, 3), 0, JILBAROOF_FITS, 0, 3));
+    hold("check, over gamma", judges(jilbaroof_check(pair, 2, 5, 2, (const uint8_t[]){12, 11}, 2, 0), 0, JILBAROOF_OVER, 0, 3));
+    hold("check, far by gamma", judges(jilbaroof_check(pair, 2, 5, 2, (const uint8_t[]){12, 13}, 2, 0), 0, JILBAROOF_FAR, 2, 0));
+    hold("check, far behind a sum", judges(jilbaroof_check(three, 3, 3, 4, late, 3, 0), 0, JILBAROOF_FAR, 3, 0));
+    hold("check, lost at 1", judges(jilbaroof_check(Q, 3, 12, 12, Y, 17, 1), 0, JILBAROOF_FAR, 1, 0));
+    hold("check, lost at 2", judges(jilbaroof_check(Q, 3, 12, 12, Y, 17, 5), 0, JILBAROOF_FAR, 2, 0));
+    hold("check, lost at 3", judges(jilbaroof_check(Q, 3, 12, 12, Y, 17, 9), 0, JILBAROOF_FAR, 3, 0));
+    hold("check, not lost", judges(jilbaroof_check(Q, 3, 12, 12, Y, 17, 13), 0, JILBAROOF_FITS, 0, 1));
+    hold("check, lost, widest", judges(jilbaroof_check(many, 1, 255, 16320, some, 4, 0), 0, JILBAROOF_FAR, 1, 0));
+    hold("check, 64 points", judges(jilbaroof_check(many, 64, 255, 16320, high, 64, 0), 0, JILBAROOF_FITS, 0, 16256));
+    hold("check, 64 points, over", judges(jilbaroof_check(many, 64, 255, 16255, high, 64, 0), 0, JILBAROOF_OVER, 0, 16256));
+    high[63] = 0;
+    hold("check, 64 points, far", judges(jilbaroof_check(many, 64, 255, 16255, high, 64, 0), 0, JILBAROOF_FAR, 64, 0));
+    hold("check, far on", judges(jilbaroof_check(pair, 2, 9, 18, many, 1000000, 999998), 0, JILBAROOF_FITS, 0, 18));
+}
+
+/* The refusals as the searchers have them, whether s has a window or not; then 6: directly behind the last window, at the end and beyond it, by
+ * numbers that a narrower type would cut to a window's or that wrap with m, and where there is no window at all. */
+static void check_refused(void)
+{
+    static const size_t behind[] = {12, 13, 14, 15, SIZE_MAX - 2, SIZE_MAX};
+    for (const refused *r = refusals; r < refusals_end; r++) {
+        const size_t windows[] = {0, r->n, r->n + 1, SIZE_MAX};
+        for (size_t i = 0; i < 4; i++)
+            hold("check, refused",
+                 judges(jilbaroof_check(r->points, r->m, r->delta, r->gamma, r->recording, r->n, windows[i]), r->number, 0, 0, 0));
+    }
+    for (size_t i = 0; i < sizeof behind / sizeof *behind; i++)
+        hold("check, no window", judges(jilbaroof_check(P, 3, 1, 2, L, 14, behind[i]), 6, 0, 0, 0));
+    hold("check, at 2^32", judges(jilbaroof_check(P, 3, 1, 2, L, 14, 4294967296), 6, 0, 0, 0));
+    hold("check, far on, no window", judges(jilbaroof_check(P, 3, 1, 2, many, 1000000, 999998), 6, 0, 0, 0));
+    hold("check, no reading", judges(jilbaroof_check(P, 3, 1, 2, NULL, 0, 0), 6, 0, 0, 0));
+    hold("check, 2 readings", judges(jilbaroof_check(P, 3, 1, 2, L, 2, 0), 6, 0, 0, 0));
+    hold("check, 3 readings", judges(jilbaroof_check(P, 3, 1, 2, L, 3, 0), 0, JILBAROOF_FITS, 0, 0));
+    hold("check, 3 readings, at 1", judges(jilbaroof_check(P, 3, 1, 2, L, 3, 1), 6, 0, 0, 0));
+    hold("check, a 0 behind 64 points", judges(jilbaroof_check(zero_65, 64, 0, 0, many, 64, 0), 0, JILBAROOF_FITS, 0, 0));
+}
+
 /* The questions as functions of the profile and the tolerances alone. Point 0 would be refused by 6, and 1, 7, 8 and 2 come first. */
 static jilbaroof_jump last_reading(const uint8_t *points, size_t m, uint32_t delta, uint32_t gamma)
 {
@@ -258,6 +314,9 @@ int main(void)
     first();
     first_refused();
     first_limits();
+
+    check();
+    check_refused();
 
     hold("last_reading 44", says(jilbaroof_last_reading(P, 3, 1, 2, 44), 0, 0));
     hold("last_reading 41", says(jilbaroof_last_reading(P, 3, 1, 2, 41), 0, 1));

@@ -1,6 +1,7 @@
 //! Calls every function of rust/jilbaroof.rs, and holds the answers to the sheet of the specification, to its refusals and to its limits, with
 //! readings of 0 among them.
-use jilbaroof::{First, Jump, Search, Searcher};
+use jilbaroof::Verdict::{Far, Fits, Over};
+use jilbaroof::{First, Judged, Jump, Search, Searcher};
 
 const P: [u8; 3] = [40, 42, 44];
 const L: [u8; 14] = [40, 42, 44, 41, 43, 45, 39, 42, 43, 70, 41, 41, 43, 40];
@@ -163,6 +164,55 @@ fn first_limits(many: &[u8]) {
     assert_eq!(jilbaroof::first(&[1], 255, 16_320, &SOME), found(Some(1), 1));
 }
 
+/// E4 and E5 at windows of each kind, the last window among them; a point that is far by gamma alone, and one behind a sum above g; readings of
+/// 0, each within delta; sums of 64 points that 8 bits do not hold; a position that 16 bits do not hold.
+fn check(many: &[u8]) {
+    let mut lost = [255; 64];
+    lost[63] = 0;
+    for (points, delta, gamma, recording, s, verdict) in [
+        (&P[..], 1, 2, &L[..], 0, Fits(0)),
+        (&P, 1, 2, &L, 1, Far(1)),
+        (&P, 1, 2, &L, 3, Over(3)),
+        (&P, 1, 2, &L, 6, Fits(2)),
+        (&P, 1, 2, &L, 11, Far(3)),
+        (&P, 1, 3, &L, 3, Fits(3)),
+        (&[10, 10], 5, 2, &[12, 11], 0, Over(3)),
+        (&[10, 10], 5, 2, &[12, 13], 0, Far(2)),
+        (&[10, 10, 10], 3, 4, &[13, 13, 14], 0, Far(3)),
+        (&Q, 12, 12, &Y, 1, Far(1)),
+        (&Q, 12, 12, &Y, 5, Far(2)),
+        (&Q, 12, 12, &Y, 9, Far(3)),
+        (&Q, 12, 12, &Y, 13, Fits(1)),
+        (&[1], 255, 16_320, &SOME, 0, Far(1)),
+        (&many[..64], 255, 16_320, &[255; 64], 0, Fits(16_256)),
+        (&many[..64], 255, 16_255, &[255; 64], 0, Over(16_256)),
+        (&many[..64], 255, 16_255, &lost, 0, Far(64)),
+        (&[10, 10], 9, 18, &many[..1_000_000], 999_998, Fits(18)),
+        (&P, 1, 2, &L[..3], 0, Fits(0)),
+        (&ZERO_65[..64], 0, 0, &many[..64], 0, Fits(0)),
+    ] {
+        assert_eq!(jilbaroof::check(points, delta, gamma, recording, s), Judged { refusal: 0, verdict }, "at {s}");
+    }
+}
+
+/// The refusals as the searchers have them, whether `s` has a window or not; then 6: directly behind the last window, at the end and beyond it, by
+/// numbers that a narrower type would cut to a window's or that wrap with m, and where there is no window at all.
+fn check_refused(many: &[u8]) {
+    let refused = |refusal| Judged { refusal, verdict: Far(0) };
+    for (number, points, delta, gamma, recording) in refusals(many) {
+        for s in [0, recording.len(), recording.len() + 1, usize::MAX] {
+            assert_eq!(jilbaroof::check(points, delta, gamma, recording, s), refused(number), "at {s}");
+        }
+    }
+    for s in [12, 13, 14, 15, 1 << 32, usize::MAX - 2, usize::MAX] {
+        assert_eq!(jilbaroof::check(&P, 1, 2, &L, s), refused(6), "at {s}");
+    }
+    assert_eq!(jilbaroof::check(&P, 1, 2, &many[..1_000_000], 999_998), refused(6));
+    assert_eq!(jilbaroof::check(&P, 1, 2, &[], 0), refused(6));
+    assert_eq!(jilbaroof::check(&P, 1, 2, &L[..2], 0), refused(6));
+    assert_eq!(jilbaroof::check(&P, 1, 2, &L[..3], 1), refused(6));
+}
+
 /// The refusals but 3, since a question has no recording. `last` is the refusal that 64 points, also with a 0 behind them, leave to the
 /// question: none, or mismatch's own.
 fn question_refused(ask: fn(&[u8], u32, u32) -> Jump, last: u32, many: &[u8]) {
@@ -191,6 +241,9 @@ fn main() {
 
     first();
     first_limits(&many);
+
+    check(&many);
+    check_refused(&many);
 
     question_refused(|x, delta, gamma| jilbaroof::last_reading(x, delta, gamma, 44), 0, &many);
     question_refused(|x, delta, gamma| jilbaroof::next_reading(x, delta, gamma, 44), 0, &many);
