@@ -61,10 +61,11 @@ type Made = (Profile, Vec<u8>);
 type Kind = fn(&mut Draw) -> Made;
 
 /// Kinds that need no 0 for what they try, and whose profiles are accepted.
-const ORDINARY: [Kind; 14] = [
+const ORDINARY: [Kind; 15] = [
     few_readings,
     ends_of_the_readings,
     sums_about_gamma,
+    broken_windows,
     one_point,
     sixty_four_points,
     no_room_for_a_window,
@@ -213,6 +214,32 @@ fn sums_about_gamma(draw: &mut Draw) -> Made {
         recording.extend(draw.readings(gap, &alphabet));
     }
     (profile(points, delta, gamma), recording)
+}
+
+/// Windows that are no places for one reason or for several: a sum about g or above it, and readings that are too far, at one point or more,
+/// often the last. Gamma is often below delta, so that a reading is too far by gamma alone.
+fn broken_windows(draw: &mut Draw) -> Made {
+    let m = draw.one_of(&[1, 2, 3, 9, 20, 64, 64]);
+    let delta = draw.number(1, 9);
+    let (below, any) = (draw.number(0, delta - 1), draw.number(1, delta * m as u32));
+    let gamma = draw.one_of(&[below, below, any]);
+    let profile = profile(draw.readings(m, &ANY[100..=110]), delta, gamma);
+    let (d, g) = (delta.min(gamma), profile.g() as u32);
+    let mut recording = Vec::new();
+    for _ in 0..draw.from(2, 5) {
+        let sum = draw.one_of(&[0, g, g + 1, 2 * g + 2]);
+        let mut window = window_of_sum(draw, &profile.points, d, sum);
+        let too_far = draw.one_of(&[d + 1, delta.max(d + 1), delta + 1]) as u8;
+        for _ in 0..draw.one_of(&[0, 1, 1, 2]) {
+            let anywhere = draw.length(0, m - 1);
+            let at = draw.one_of(&[anywhere, 0, m - 1, m - 1]);
+            window[at] = draw.one_of(&[profile.points[at] - too_far, profile.points[at] + too_far]);
+        }
+        recording.extend(window);
+        let gap = draw.one_of(&[0, 0, 1, 3]);
+        recording.extend(draw.readings(gap, &profile.points));
+    }
+    (profile, recording)
 }
 
 fn one_point(draw: &mut Draw) -> Made {
@@ -677,8 +704,8 @@ fn long_recording(draw: &mut Draw, turn: usize) -> Made {
 mod coverage {
     use super::*;
     use crate::frames;
-    use crate::reference::{after_check, counter_width, counters_in_a_word, first, last_reading, places, walk, words};
-    use crate::reference::{refusal_of_profile, refusal_of_search, First, Searcher};
+    use crate::reference::{after_check, check, counter_width, counters_in_a_word, first, last_reading, places, walk, words};
+    use crate::reference::{refusal_of_profile, refusal_of_search, First, Searcher, Verdict};
 
     /// The sum of differences at a window, if they are all at most delta; by difference alone, whether it holds a 0 or not.
     fn sum_within_delta(profile: &Profile, window: &[u8]) -> Option<u32> {
@@ -954,6 +981,128 @@ mod coverage {
         ]
     }
 
+    /// What the question about one window answers in an accepted case: by how little windows are places or not, why, and at the end.
+    fn check_situations(case: &Case) -> Vec<(&'static str, bool)> {
+        let judged = |s: i64| check(&case.profile, &case.recording, s as usize).verdict.unwrap();
+        let verdicts: Vec<(&[u8], Verdict)> = windows(case).map(|(s, window)| (window, judged(s))).collect();
+        [sum_situations(case, &verdicts), far_situations(case, &verdicts), lost_situations(case, &verdicts)].concat()
+    }
+
+    fn sum_situations(case: &Case, verdicts: &[(&[u8], Verdict)]) -> Vec<(&'static str, bool)> {
+        let g = case.profile.g();
+        let any = |sought: Verdict| verdicts.iter().any(|&(_, verdict)| verdict == sought);
+        let last = |test: fn(Verdict) -> bool| verdicts.len() > 1 && verdicts.last().is_some_and(|&(_, verdict)| test(verdict));
+        vec![
+            ("check: sum g", any(Verdict::Fits(g))),
+            ("check: sum g, and g is 0", g == 0 && any(Verdict::Fits(0))),
+            ("check: sum g, and gamma is above it", g < case.profile.gamma as i64 && any(Verdict::Fits(g))),
+            ("check: sum g + 1", any(Verdict::Over(g + 1))),
+            ("check: sum above g + 1", verdicts.iter().any(|(_, verdict)| matches!(verdict, Verdict::Over(sum) if *sum > g + 1))),
+            ("check: the last window fits", last(|verdict| matches!(verdict, Verdict::Fits(_)))),
+            ("check: the last window is far", last(|verdict| matches!(verdict, Verdict::Far(_)))),
+            ("check: the last window is over", last(|verdict| matches!(verdict, Verdict::Over(_)))),
+        ]
+    }
+
+    /// A window with a far point: where the first one stands, counted from 0, and what is so of it and of the others.
+    struct Broken {
+        at: usize,
+        difference: u32,
+        /// the sum up to that point
+        before: i64,
+        /// it is a 0 that differs by at most d
+        lost: bool,
+        /// how many points are far, and how many of them have a reading that is no 0
+        far: usize,
+        far_and_read: usize,
+        /// no reading is 0, and every difference is at most delta
+        within_delta: bool,
+    }
+
+    fn broken(case: &Case, verdicts: &[(&[u8], Verdict)]) -> Vec<Broken> {
+        let (points, delta) = (&case.profile.points, case.profile.delta);
+        let d = delta.min(case.profile.gamma);
+        let broken = |&(window, verdict): &(&[u8], Verdict)| {
+            let Verdict::Far(p) = verdict else { return None };
+            let at = p as usize - 1;
+            let differences: Vec<u32> = window.iter().zip(points).map(|(a, x)| a.abs_diff(*x) as u32).collect();
+            let far = |i: &usize| window[*i] == 0 || differences[*i] > d;
+            Some(Broken {
+                at,
+                difference: differences[at],
+                before: differences[..at].iter().sum::<u32>() as i64,
+                lost: window[at] == 0 && differences[at] <= d,
+                far: (0..points.len()).filter(far).count(),
+                far_and_read: (0..points.len()).filter(far).filter(|i| window[*i] != 0).count(),
+                within_delta: !window.contains(&0) && differences.iter().all(|difference| *difference <= delta),
+            })
+        };
+        verdicts.iter().filter_map(broken).collect()
+    }
+
+    /// Far points: which of the profile's, by how much, and behind which sum.
+    fn far_situations(case: &Case, verdicts: &[(&[u8], Verdict)]) -> Vec<(&'static str, bool)> {
+        let (m, g) = (case.profile.points.len(), case.profile.g());
+        let (delta, gamma) = (case.profile.delta, case.profile.gamma);
+        let windows = broken(case, verdicts);
+        let any = |test: &dyn Fn(&Broken) -> bool| windows.iter().any(test);
+        let by_gamma = |test: &dyn Fn(&Broken) -> bool| windows.iter().any(|w| w.within_delta && test(w));
+        vec![
+            ("check: far by one", any(&|w| w.difference == delta.min(gamma) + 1)),
+            ("check: far at the only point", any(&|_| m == 1)),
+            ("check: far at the first of all points", any(&|w| m > 1 && w.far == m)),
+            ("check: far at the first point alone", any(&|w| m > 1 && w.at == 0 && w.far == 1)),
+            ("check: far at an inner point, and at a later one", any(&|w| w.at > 0 && w.far > 1)),
+            ("check: far at the last point alone", any(&|w| m > 1 && w.at == m - 1)),
+            ("check: far at the last of 64 points", any(&|w| w.at == 63)),
+            ("check: far at the last of 64 points, behind a sum above g", any(&|w| w.at == 63 && w.before > g)),
+            ("check: far behind a sum above g", any(&|w| w.before > g)),
+            ("check: far at the last point, behind a sum of g + 1", any(&|w| w.at == m - 1 && w.before == g + 1)),
+            ("check: far by gamma alone, and every difference within delta", by_gamma(&|_| true)),
+            ("check: far by gamma alone, by one", by_gamma(&|w| w.difference == gamma + 1)),
+            ("check: far by gamma alone, at delta", by_gamma(&|w| w.difference == delta)),
+            ("check: far by gamma alone, behind a sum above g", by_gamma(&|w| w.before > g)),
+            ("check: far by gamma alone, 64 points", by_gamma(&|_| m == 64)),
+            ("check: far by gamma alone, at the last of 64 points", by_gamma(&|w| w.at == 63)),
+            ("check: far by gamma alone, at several points", by_gamma(&|w| w.far > 1)),
+        ]
+    }
+
+    /// Points that are far because contact was lost there.
+    fn lost_situations(case: &Case, verdicts: &[(&[u8], Verdict)]) -> Vec<(&'static str, bool)> {
+        let g = case.profile.g();
+        let windows = broken(case, verdicts);
+        let any = |test: &dyn Fn(&Broken) -> bool| windows.iter().any(|w| w.lost && test(w));
+        vec![
+            ("check: far at a 0 within d", any(&|_| true)),
+            ("check: far at a 0 within d, behind a sum above g", any(&|w| w.before > g)),
+            ("check: far at a 0 within d, and at a later point", any(&|w| w.far_and_read > 0)),
+        ]
+    }
+
+    /// By which number an s without a window is refused, and the first such s.
+    fn no_window_situations(case: &Case) -> Vec<(&'static str, bool)> {
+        let (m, n) = (case.profile.points.len(), case.recording.len());
+        let refusal = |s: usize| check(&case.profile, &case.recording, s).refusal;
+        // one above the last position: no window stands there, whatever m is
+        let beyond = refusal(n + 1);
+        assert_eq!(beyond, refusal(usize::MAX), "{}", frames::describe(case));
+        let behind_the_last = m <= n && refusal(n - m) == 0 && refusal(n - m + 1) == 6;
+        vec![
+            ("check: no window, refused 1", beyond == 1),
+            ("check: no window, refused 7", beyond == 7),
+            ("check: no window, refused 8", beyond == 8),
+            ("check: no window, refused 2", beyond == 2),
+            ("check: no window, refused 3", beyond == 3),
+            ("check: refused 6 at 0, with no reading", n == 0 && refusal(0) == 6),
+            ("check: refused 6 at 0, with a reading too few", n > 0 && n + 1 == m && refusal(0) == 6),
+            ("check: refused 6 directly behind the only window", n == m && behind_the_last),
+            ("check: refused 6 directly behind the last window", n > m && behind_the_last),
+            ("check: refused 6 directly behind the last window, 1 point", m == 1 && behind_the_last),
+            ("check: refused 6 directly behind the last window, 64 points", m == 64 && behind_the_last),
+        ]
+    }
+
     /// Why a window is no place, if it is by one point alone.
     #[derive(PartialEq)]
     enum Fall {
@@ -1015,7 +1164,8 @@ mod coverage {
             let (delta, gamma) = (case.profile.delta, case.profile.gamma);
             let accepted = refusal_of_profile(&case.profile) == 0;
             let mut meets = |situation: &'static str, yes: bool| *met.entry(situation).or_insert(0) += yes as usize;
-            for (situation, yes) in [refusal_situations(&case), refusal_8_situations(&case), first_situations(&case)].concat() {
+            let refusals = [refusal_situations(&case), refusal_8_situations(&case), no_window_situations(&case)].concat();
+            for (situation, yes) in refusals.into_iter().chain(first_situations(&case)) {
                 meets(situation, yes);
             }
             meets("delta greatest", delta == u32::MAX);
@@ -1055,7 +1205,7 @@ mod coverage {
             meets("reading 0", case.recording.contains(&0));
             meets("reading 255", case.recording.contains(&255));
             let zeros = [spoilt_situations(&case, &found), zero_situations(&case, &found), walk_situations(&case)].concat();
-            for (situation, yes) in block_situations(&case, &found, &near).into_iter().chain(zeros) {
+            for (situation, yes) in [block_situations(&case, &found, &near), zeros, check_situations(&case)].concat() {
                 meets(situation, yes);
             }
         }
@@ -1063,7 +1213,7 @@ mod coverage {
             println!("{count:5} {situation}");
             // long recordings are few, since they take most of the time
             let least = match situation {
-                "first: refused 3" => 1,
+                "first: refused 3" | "check: no window, refused 3" => 1,
                 _ if situation.starts_with("long") => 1,
                 _ if situation.starts_with("block") || situation.starts_with("zero") => 8,
                 _ => 3,

@@ -1,9 +1,9 @@
 //! How a case is handed to the program, and what the program must print for it.
 //!
 //! A frame: delta and gamma in 4 bytes each, m in 2, n in 4, room in 2, all high byte first; then m points, then n readings.
-//! Frames follow each other to the end of the input. A case has eleven lines of output, so that line 11k + j belongs to case k.
+//! Frames follow each other to the end of the input. A case has twelve lines of output, so that line 12k + j belongs to case k.
 
-use crate::reference::{self, First, Jump, Profile, SEARCHERS};
+use crate::reference::{self, First, Judged, Jump, Profile, Verdict, SEARCHERS};
 use std::io::{self, Read, Write};
 
 /// The program takes frames up to these sizes.
@@ -14,7 +14,11 @@ pub const MOST_ROOM: usize = 200;
 /// Before each search, entry k of the lent list is this and k, so that an untouched entry shows.
 pub const UNTOUCHED: u32 = 1_000_000_000;
 
-pub const LINES: usize = 11;
+/// A recording of at most twice so many readings is asked about at every s from 0 to one beyond its end; a longer one at so many from 0 on, and
+/// at all from so many before its end.
+pub const MOST_ASKED: usize = 500;
+
+pub const LINES: usize = 12;
 
 pub struct Case {
     pub profile: Profile,
@@ -75,6 +79,8 @@ pub fn answers(case: &Case) -> Vec<String> {
     lines.push(pairs("after_check", vec![reference::after_check(profile)]));
     lines.push(pairs("full", vec![reference::full(profile)]));
     lines.push(pairs("mismatch", reference::mismatches(profile, 0..=greatest_number)));
+    let windows = asked_about(case.recording.len());
+    lines.push(check_line(windows.map(|s| reference::check(profile, &case.recording, s)).collect()));
     assert_eq!(lines.len(), LINES);
     lines
 }
@@ -86,6 +92,27 @@ fn first_line(first: First) -> String {
         None => (0, 0),
     };
     format!("first {} {found} {place} {}", first.refusal, first.tried)
+}
+
+/// Each s that the question about one window is asked for, with so many readings: those above, and last the greatest there is.
+fn asked_about(n: usize) -> impl Iterator<Item = usize> {
+    let is_asked = move |s: &usize| n <= 2 * MOST_ASKED || *s < MOST_ASKED || n - MOST_ASKED <= *s;
+    (0..=n + 1).filter(is_asked).chain([usize::MAX])
+}
+
+/// For each s the refusal; 0, 1 or 2 as a point is far, the window fits or its sum is over; then the point and the sum, 0 where there is none.
+fn check_line(answers: Vec<Judged>) -> String {
+    let mut line = "check".to_string();
+    for Judged { refusal, verdict } in answers {
+        let (kind, point, sum) = match verdict {
+            None => (0, 0, 0),
+            Some(Verdict::Far(p)) => (0, p, 0),
+            Some(Verdict::Fits(sum)) => (1, 0, sum),
+            Some(Verdict::Over(sum)) => (2, 0, sum),
+        };
+        line += &format!(" {refusal} {kind} {point} {sum}");
+    }
+    line
 }
 
 fn pairs(name: &str, jumps: Vec<Jump>) -> String {

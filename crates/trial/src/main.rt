@@ -1,6 +1,7 @@
 // Reads framed cases from standard input and prints, for each, what every searcher and every question answers. tests/ makes the cases and
 // knows the answers; specs/Head.antt of the crate `framed` says what a frame is.
 mod asked;
+mod judged;
 mod lines;
 mod searched;
 
@@ -56,6 +57,7 @@ fn print_case(points: &[u8], delta: u32, gamma: u32, recording: &[u8], room: usi
     let mut page = io::large_buffer();
     let at = searched::searches(&mut page, points, delta, gamma, recording, room);
     let at = asked::questions(&mut page, at, points, delta, gamma);
+    let at = judged::windows(&mut page, at, points, delta, gamma, recording);
     lines::write(&page, at);
 }
 
