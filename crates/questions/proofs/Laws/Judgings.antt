@@ -1,12 +1,13 @@
 -- Laws of the question about one window: when it is refused, what each of its answers says, and that there is no second. Assumes nothing.
 use Prim.Native.Nat.{ℕ, zero, suc, _+_, _*_, _≤_, _<_}
 use mathlib.Core.Path.{_≡_, refl, sym, ap, ap₂, _∙_}
-use mathlib.Core.Bool.{true, false}
-use mathlib.Core.Logic.{_⊎_, inl, inr, _↔_, Iff·trans, Iff·and}
+use mathlib.Core.Bool.{true, false, _||_}
+use mathlib.Core.Logic.{_⊎_, inl, inr, ⊎-elim, _↔_, Iff·trans, Iff·and}
 use mathlib.Core.List.{List, [], _∷_, List·Memᴰ}
 use native.Mathlib.Omega.{arith}
 use lib.ListN.{length, getD}
-use borrow.Author.Tests.{ltb-true, lt-ltb}
+use lib.Dec.{eqb}
+use borrow.Author.Tests.{eqb-true, ltb-true, lt-ltb}
 use Rattle.fit.specs.Reading.{near}
 use Rattle.fit.specs.Rule.{readingAt}
 use Rattle.fit.specs.Place.{fitOf, sumDiff, Place, dOf, gOf}
@@ -19,7 +20,7 @@ use Rattle.fit.specs.Verdict.{Told, farAt, fitsWith, overWith, toldOf, BreaksAt
 use Rattle.fit.specs.declared.limits.Checked.{Checked}
 use Rattle.fit.specs.declared.verdict.Verdict.{Verdict}
 use Rattle.fit.specs.declared.verdict.Verdict.the-variants.{Fits, Far, Over}
-use Rattle.fit.proofs.Laws.Bools.{at-most}
+use Rattle.fit.proofs.Laws.Bools.{is-false, not-both, or-cases, at-most}
 use Rattle.fit.proofs.Laws.Chains.{has, behind, ahead, first-exactly, zero-exactly, in-order, joined, none-both, one-spared}
 use Rattle.fit.proofs.Laws.Refusals.{search-spared}
 use Rattle.fit.proofs.Laws.Constructed.{Carries, search-carries, told-spans}
@@ -46,6 +47,9 @@ module _ (m n s : ℕ) where
   unfolding ofWindow
   window-good h = sym (zero-exactly (noWindow m n s ∷ []) refl .1 (one-spared (noWindow m n s) no-window-exactly .1 (λ l. omega arith)))
 
+not-six : (num m n s : ℕ) → (num ≡ 6 → ⊥) → has num (noWindow m n s ∷ []) ≡ false
+not-six num m n s other = is-false (eqb num 6 || false) (λ t. ⊎-elim (λ e. other (eqb-true num 6 e)) (λ e. not-both e refl) (or-cases (eqb num 6) false t))
+
 -- what is known where the question is not refused
 pub record CheckAsked (delta gamma : ℕ) (x y : List ℕ) (s : ℕ) : Type 0 where
   pub ok : Accepted delta gamma x y
@@ -53,10 +57,10 @@ pub record CheckAsked (delta gamma : ℕ) (x y : List ℕ) (s : ℕ) : Type 0 wh
 
 -- ---- the numbers: 1, 7, 8, 2, 3, 6
 module _ (delta gamma : ℕ) (x y : List ℕ) (s : ℕ) where
-  -- a number of a search is given exactly where a search of that recording is refused by it
-  pub as-search : (num : ℕ) → 1 ≤ num → has num (noWindow (length x) (length y) s ∷ []) ≡ false → (checkRefusal delta gamma x y s ≡ num) ↔ (searchRefusal delta gamma x y ≡ num)
+  -- every number but 6 is given exactly where a search of that recording is refused by it
+  pub as-search : (num : ℕ) → 1 ≤ num → (num ≡ 6 → ⊥) → (checkRefusal delta gamma x y s ≡ num) ↔ (searchRefusal delta gamma x y ≡ num)
   unfolding checkRefusal searchRefusal
-  as-search num some other = ahead (searchReasons delta gamma x y) (noWindow (length x) (length y) s ∷ []) num some other
+  as-search num some other = ahead (searchReasons delta gamma x y) (noWindow (length x) (length y) s ∷ []) num some (not-six num (length x) (length y) s other)
 
   -- "6 is also given for an s that has no window, after 3": and no reason before it applies
   pub check-six-exactly : (checkRefusal delta gamma x y s ≡ 6) ↔ (Accepted delta gamma x y × (length y < s + length x))
