@@ -55,7 +55,7 @@ const ANY: [u8; 256] = {
 /// Both ends of the readings, where differences cannot go either way.
 const ENDS: [u8; 8] = [0, 1, 2, 3, 252, 253, 254, 255];
 
-/// A profile and a recording; the length of the lent list is drawn afterwards.
+/// A profile and a recording; the lengths of the lent lists are drawn afterwards.
 type Made = (Profile, Vec<u8>);
 
 type Kind = fn(&mut Draw) -> Made;
@@ -88,11 +88,18 @@ const LONG_EVERY: usize = 200;
 /// One case in so many is at an edge of packed's words, one after the other, so that 2,000 cases have them all. None of them is a long one.
 const EDGE_EVERY: usize = 5;
 
+/// One case in so many is about sums, one after the other, so that 2,000 cases have each of them with all pairs of lengths. None of them is at an
+/// edge or a long one.
+const SUMS_EVERY: usize = 10;
+
 pub fn cases(count: usize, seed: u64) -> impl Iterator<Item = Case> {
-    let (sheet, edges) = (sheet(), edges());
+    let (sheet, edges, sums) = (sheet(), edges(), sums_in_all_lengths());
     let kinds = [&ORDINARY[..], &ZEROS, &REFUSED].concat();
     let mut draw = Draw(seed);
     (0..count).map(move |number| {
+        if number >= sheet.len() && number % SUMS_EVERY == 3 {
+            return sums[number / SUMS_EVERY % sums.len()].clone();
+        }
         let (profile, recording) = if number < sheet.len() {
             sheet[number].clone()
         } else if number % LONG_EVERY == LONG_EVERY - 1 {
@@ -102,8 +109,9 @@ pub fn cases(count: usize, seed: u64) -> impl Iterator<Item = Case> {
         } else {
             kinds[number % kinds.len()](&mut draw)
         };
-        let room = room(&mut draw, &profile, &recording);
-        Case { profile, recording, room }
+        let total = total(&profile, &recording);
+        let (room, sums_room) = (room(&mut draw, total), room(&mut draw, total));
+        Case { profile, recording, room, sums_room }
     })
 }
 
@@ -127,17 +135,90 @@ fn sheet() -> Vec<Made> {
     ]
 }
 
-/// A list with no room, too little room, just enough, more than enough.
-fn room(draw: &mut Draw, profile: &Profile, recording: &[u8]) -> usize {
-    let refused = reference::refusal_of_profile(profile) != 0;
-    let total = if refused { 0 } else { reference::places(profile, recording).len() };
+/// How many places there are; none where the search is refused.
+fn total(profile: &Profile, recording: &[u8]) -> usize {
+    match reference::refusal_of_search(profile, recording) {
+        0 => reference::places(profile, recording).len(),
+        _ => 0,
+    }
+}
+
+/// A list with no room, too little room, just enough, more than enough; mostly with some where there is no place.
+fn room(draw: &mut Draw, total: usize) -> usize {
     let some = draw.length(0, 12);
-    let choice = draw.one_of(&[0, total.saturating_sub(1), total / 2, total, total + 1, total + some, some]);
+    let choice = match total {
+        0 => draw.one_of(&[0, 1, some, 12]),
+        _ => draw.one_of(&[0, total - 1, total / 2, total, total + 1, total + some, some]),
+    };
     choice.min(MOST_ROOM)
 }
 
 fn profile(points: Vec<u8>, delta: u32, gamma: u32) -> Profile {
     Profile { points, delta, gamma }
+}
+
+/// Each case about sums, with a list and sums of no room, too little, just enough and more than enough, in all pairs. Neighbours have another case
+/// and another pair, so that even a short run has several of both.
+fn sums_in_all_lengths() -> Vec<Case> {
+    let all = about_sums();
+    let pairs = (0..16).flat_map(|turn| all.iter().enumerate().map(move |(k, made)| (made, (turn + k) % 16)));
+    pairs
+        .map(|((profile, recording), pair)| {
+            let lengths = match total(profile, recording) {
+                0 => [0, 1, 2, 5],
+                total => [0, total / 2, total, total + 3],
+            };
+            let (room, sums_room) = (lengths[pair % 4], lengths[pair / 4]);
+            Case { profile: profile.clone(), recording: recording.clone(), room, sums_room }
+        })
+        .collect()
+}
+
+/// Several places of different sums, the least of which stands anywhere among them, in blocks of windows and behind them; and what is no place,
+/// with sums that are less.
+fn about_sums() -> Vec<Made> {
+    let falling: Vec<(usize, u32)> = (0..9).map(|s| (s, 9 - s as u32)).collect();
+    let scattered = [(0, 40), (5, 33), (63, 50), (67, 21), (90, 45), (127, 30), (131, 12), (149, 13)];
+    let twenty: Vec<u8> = (0..20).map(|i| 60 + 7 * (i % 4)).collect();
+    let dip = |i: usize| 255 - 40u8.saturating_sub(i.abs_diff(110) as u8);
+    vec![
+        // E5 from position 1 on: the least is between two that are alike
+        (profile(vec![40, 42, 44], 1, 3), vec![42, 44, 41, 43, 45, 39, 42, 43, 70, 41, 41, 43, 40]),
+        planted(vec![100], 9, 9, 9, &falling),
+        // one block of windows, a perfect fit among the places
+        planted(vec![50, 60, 70], 4, 12, 64, &[(0, 12), (5, 3), (10, 0), (20, 3), (31, 0), (63, 1)]),
+        // all alike; and perfect fits alone, whose least sum is that of no place
+        (profile(vec![9; 4], 2, 8), vec![11; 12]),
+        (profile(vec![7, 9], 0, 0), [7, 9].repeat(4)),
+        // a sum above gamma, a point that is too far, a 0: no place
+        (profile(vec![2, 2], 3, 5), vec![5, 5, 90, 6, 2, 90, 0, 2]),
+        // and between places, with sums that are less than theirs
+        (profile(vec![2, 2], 3, 6), vec![5, 5, 90, 6, 2, 90, 0, 2, 90, 4, 5, 90, 2, 0, 90, 5, 5]),
+        // two blocks and a rest that has the least
+        planted(vec![100, 110, 120], 20, 50, 150, &scattered),
+        // three words of counters, the least in the block before the rest
+        planted(twenty, 5, 100, 90, &[(0, 90), (21, 17), (43, 100), (66, 55), (89, 99)]),
+        // 16 words, every window a place, from the greatest sum there is down to the least in the second block
+        (profile(vec![1; 64], 255, 16_320), (0..192).map(dip).collect()),
+        // refused by 2 and by 8, where every window would be a place
+        (profile(vec![7, 7], 9, 16_321), vec![9; 9]),
+        (profile(vec![7, 0], 9, 16_320), [9, 1].repeat(5)),
+    ]
+}
+
+/// So many windows of which just these are places, each with its sum. Every other reading is 255, which suits no point; places of several points lie
+/// so far apart that one is between them.
+fn planted(points: Vec<u8>, delta: u32, gamma: u32, windows: usize, places: &[(usize, u32)]) -> Made {
+    let mut recording = vec![255; windows + points.len() - 1];
+    for &(s, sum) in places {
+        let mut left = sum;
+        for (reading, point) in recording[s..].iter_mut().zip(&points) {
+            let difference = left.min(delta);
+            *reading = point + difference as u8;
+            left -= difference;
+        }
+    }
+    (profile(points, delta, gamma), recording)
 }
 
 /// A few different readings close to each other: many places, and many that only just fail.
@@ -704,8 +785,11 @@ fn long_recording(draw: &mut Draw, turn: usize) -> Made {
 mod coverage {
     use super::*;
     use crate::frames;
-    use crate::reference::{after_check, check, counter_width, counters_in_a_word, first, last_reading, places, walk, words};
+    use crate::reference::{
+        after_check, check, counter_width, counters_in_a_word, first, last_reading, places, sum, walk, words,
+    };
     use crate::reference::{refusal_of_profile, refusal_of_search, First, Searcher, Verdict};
+    use std::cmp::Ordering;
 
     /// The sum of differences at a window, if they are all at most delta; by difference alone, whether it holds a 0 or not.
     fn sum_within_delta(profile: &Profile, window: &[u8]) -> Option<u32> {
@@ -1103,6 +1187,71 @@ mod coverage {
         ]
     }
 
+    /// By which number a search is refused that was lent two lists with room.
+    fn refused_with_lists(case: &Case) -> Vec<(&'static str, bool)> {
+        let room = case.room > 0 && case.sums_room > 0;
+        let refused = |number: u32| room && refusal_of_search(&case.profile, &case.recording) == number;
+        vec![
+            ("sums: refused 1, both lists have room", refused(1)),
+            ("sums: refused 7, both lists have room", refused(7)),
+            ("sums: refused 8, both lists have room", refused(8)),
+            ("sums: refused 2, both lists have room", refused(2)),
+            ("long: refused 3, both lists have room", refused(3)),
+        ]
+    }
+
+    /// Which place has the least sum, and whether the lists go so far; the sums of an accepted case, and what else has a sum.
+    fn least_situations(case: &Case, found: &[i64]) -> Vec<(&'static str, bool)> {
+        let sums: Vec<i64> = found.iter().map(|&s| sum(&case.profile, &case.recording, s)).collect();
+        let least = sums.iter().copied().min();
+        let count = |sought: Option<i64>| sums.iter().filter(|sum| Some(**sum) == sought).count();
+        let at = sums.iter().position(|sum| Some(*sum) == least);
+        let stands = |test: &dyn Fn(usize) -> bool| at.is_some_and(test);
+        let (listed, told) = (|k: usize| k < case.room, |k: usize| k < case.sums_room);
+        let room = case.room > 0 && case.sums_room > 0;
+        let less = |s: i64| !found.contains(&s) && Some(sum(&case.profile, &case.recording, s)) < least;
+        let lesser: Vec<&[u8]> = windows(case).filter(|(s, _)| less(*s)).map(|(_, window)| window).collect();
+        let several = sums.len() > 1;
+        vec![
+            ("sums: none, both lists have room", sums.is_empty() && room),
+            ("sums: none, a window is over, and both lists have room", sums.is_empty() && room && !near_sums(case).is_empty()),
+            ("sums: the least is the first alone", several && at == Some(0) && count(least) == 1),
+            ("sums: the least is neither the first nor the last", stands(&|k| k > 0 && sums.last() != sums.get(k))),
+            ("sums: the least is the last alone", several && at == Some(sums.len() - 1)),
+            ("sums: the least in both lists", stands(&|k| several && listed(k) && told(k))),
+            ("sums: the least in the list alone", stands(&|k| listed(k) && !told(k) && room)),
+            ("sums: the least in the sums alone", stands(&|k| !listed(k) && told(k) && room)),
+            ("sums: the least in neither list", stands(&|k| !listed(k) && !told(k) && room)),
+            ("sums: the least in neither list, none lent", stands(&|_| case.room == 0 && case.sums_room == 0)),
+            ("sums: the least twice, and a greater one", count(least) > 1 && count(least) < sums.len()),
+            ("sums: all alike and not 0", several && count(least) == sums.len() && least > Some(0)),
+            ("sums: a perfect fit behind others", least == Some(0) && at > Some(0)),
+            ("sums: perfect fits alone", several && sums.iter().all(|sum| *sum == 0)),
+            ("sums: less where a point is too far", lesser.iter().any(|window| !window.contains(&0))),
+            ("sums: less where contact was lost", lesser.iter().any(|window| window.contains(&0))),
+        ]
+    }
+
+    /// How great sums are, with one word of counters and with several; and where the least stands among blocks of windows.
+    fn great_situations(case: &Case, found: &[i64]) -> Vec<(&'static str, bool)> {
+        let sums: Vec<i64> = found.iter().map(|&s| sum(&case.profile, &case.recording, s)).collect();
+        let least = sums.iter().min();
+        let (whole, rest): (Vec<i64>, Vec<i64>) = found.iter().partition(|s| in_whole_block(case, **s));
+        let stands = |places: &[i64]| found.iter().zip(&sums).any(|(s, sum)| places.contains(s) && Some(sum) == least);
+        let both = !whole.is_empty() && !rest.is_empty();
+        let above = |bound: i64| sums.iter().any(|sum| *sum > bound);
+        vec![
+            ("sums: above 255, one word", above(255) && words(&case.profile) == 1),
+            ("sums: above 255, several words", above(255) && words(&case.profile) > 1),
+            ("sums: above 255, the least not", above(255) && least < Some(&256)),
+            ("sums: above 8,191", above(8_191)),
+            ("sums: the greatest there is", above(16_255)),
+            ("sums: the greatest there is, and a lesser one", above(16_255) && least < Some(&16_256)),
+            ("sums: in blocks and behind, the least in a block alone", both && stands(&whole) && !stands(&rest)),
+            ("sums: in blocks and behind, the least behind alone", both && stands(&rest) && !stands(&whole)),
+        ]
+    }
+
     /// Why a window is no place, if it is by one point alone.
     #[derive(PartialEq)]
     enum Fall {
@@ -1165,7 +1314,8 @@ mod coverage {
             let accepted = refusal_of_profile(&case.profile) == 0;
             let mut meets = |situation: &'static str, yes: bool| *met.entry(situation).or_insert(0) += yes as usize;
             let refusals = [refusal_situations(&case), refusal_8_situations(&case), no_window_situations(&case)].concat();
-            for (situation, yes) in refusals.into_iter().chain(first_situations(&case)) {
+            let untouched = refused_with_lists(&case);
+            for (situation, yes) in refusals.into_iter().chain(untouched).chain(first_situations(&case)) {
                 meets(situation, yes);
             }
             meets("delta greatest", delta == u32::MAX);
@@ -1205,7 +1355,8 @@ mod coverage {
             meets("reading 0", case.recording.contains(&0));
             meets("reading 255", case.recording.contains(&255));
             let zeros = [spoilt_situations(&case, &found), zero_situations(&case, &found), walk_situations(&case)].concat();
-            for (situation, yes) in [block_situations(&case, &found, &near), zeros, check_situations(&case)].concat() {
+            let sums = [least_situations(&case, &found), great_situations(&case, &found)].concat();
+            for (situation, yes) in [block_situations(&case, &found, &near), zeros, check_situations(&case), sums].concat() {
                 meets(situation, yes);
             }
         }
@@ -1244,6 +1395,42 @@ mod coverage {
         // 5 points have counters of 12 bits at most, since they sum to 1,275 at most, and five of these fit a word; 6 need not fit
         let several = shapes.into_iter().filter(|&(m, width)| m as i64 > counters_in_a_word(width)).map(|(m, _)| m);
         assert_eq!(several.collect::<std::collections::BTreeSet<_>>(), (6..=64).collect());
+    }
+
+    /// The default run must have every pair of lengths of the two lists, each of no room, too little, just enough and more than enough, in ten cases
+    /// or more with several places; and so in each case about sums.
+    #[test]
+    fn the_default_run_has_every_pair_of_lengths() {
+        let reach = |room: usize, total: usize| match room.cmp(&total) {
+            _ if room == 0 => "none",
+            Ordering::Less => "too short",
+            Ordering::Equal => "just enough",
+            Ordering::Greater => "longer",
+        };
+        let mut met = std::collections::BTreeMap::new();
+        let mut lent = std::collections::BTreeSet::new();
+        for case in cases(2_000, 1) {
+            let total = total(&case.profile, &case.recording);
+            lent.insert(frames::describe(&case));
+            if total > 1 {
+                *met.entry((reach(case.room, total), reach(case.sums_room, total))).or_insert(0) += 1;
+            }
+        }
+        for ((list, sums), count) in &met {
+            println!("{count:5} list {list}, sums {sums}");
+            assert!(*count >= 10, "list {list}, sums {sums}: {count}");
+        }
+        assert_eq!(met.len(), 16);
+        assert!(sums_in_all_lengths().iter().all(|case| lent.contains(&frames::describe(case))));
+    }
+
+    /// What is planted is found, and nothing else.
+    #[test]
+    fn planted_places_are_the_only_ones() {
+        let sums = [(0, 12), (4, 3), (8, 0), (61, 7)];
+        let (sought, recording) = planted(vec![50, 60, 70], 4, 12, 62, &sums);
+        let found = places(&sought, &recording);
+        assert_eq!(found.iter().map(|&s| (s as usize, sum(&sought, &recording, s) as u32)).collect::<Vec<_>>(), sums);
     }
 
     #[test]

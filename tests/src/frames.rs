@@ -1,9 +1,10 @@
 //! How a case is handed to the program, and what the program must print for it.
 //!
-//! A frame: delta and gamma in 4 bytes each, m in 2, n in 4, room in 2, all high byte first; then m points, then n readings.
+//! A frame: delta and gamma in 4 bytes each, m in 2, n in 4, and the lengths of the list and of the sums in 2 each, all high byte first; then
+//! m points, then n readings.
 //! Frames follow each other to the end of the input. A case has twelve lines of output, so that line 12k + j belongs to case k.
 
-use crate::reference::{self, First, Judged, Jump, Profile, Verdict, SEARCHERS};
+use crate::reference::{self, First, Judged, Jump, Profile, Search, Verdict, SEARCHERS};
 use std::io::{self, Read, Write};
 
 /// The program takes frames up to these sizes.
@@ -11,8 +12,9 @@ pub const MOST_POINTS: usize = 300;
 pub const MOST_READINGS: usize = 1_000_001;
 pub const MOST_ROOM: usize = 200;
 
-/// Before each search, entry k of the lent list is this and k, so that an untouched entry shows.
+/// Before each search, entry k of a lent list is this and k, so that an untouched entry shows: no place and no sum is so great.
 pub const UNTOUCHED: u32 = 1_000_000_000;
+pub const UNTOUCHED_SUM: u16 = 60_000;
 
 /// A recording of at most twice so many readings is asked about at every s from 0 to one beyond its end; a longer one at so many from 0 on, and
 /// at all from so many before its end.
@@ -20,19 +22,24 @@ pub const MOST_ASKED: usize = 500;
 
 pub const LINES: usize = 12;
 
+/// A case, with the lengths of the two lent lists: that of the places, and that of their sums.
+#[derive(Clone)]
 pub struct Case {
     pub profile: Profile,
     pub recording: Vec<u8>,
     pub room: usize,
+    pub sums_room: usize,
 }
 
 pub fn write_frame(case: &Case, out: &mut impl Write) -> io::Result<()> {
-    assert!(case.profile.points.len() <= MOST_POINTS && case.recording.len() <= MOST_READINGS && case.room <= MOST_ROOM);
+    assert!(case.profile.points.len() <= MOST_POINTS && case.recording.len() <= MOST_READINGS);
+    assert!(case.room <= MOST_ROOM && case.sums_room <= MOST_ROOM);
     out.write_all(&case.profile.delta.to_be_bytes())?;
     out.write_all(&case.profile.gamma.to_be_bytes())?;
     out.write_all(&(case.profile.points.len() as u16).to_be_bytes())?;
     out.write_all(&(case.recording.len() as u32).to_be_bytes())?;
     out.write_all(&(case.room as u16).to_be_bytes())?;
+    out.write_all(&(case.sums_room as u16).to_be_bytes())?;
     out.write_all(&case.profile.points)?;
     out.write_all(&case.recording)
 }
@@ -51,10 +58,11 @@ pub fn read_frames(input: &mut impl Read) -> io::Result<Vec<Case>> {
     let mut left = bytes.len();
     while left > 0 {
         let (delta, gamma) = (number(take(4)), number(take(4)));
-        let (m, n, room) = (number(take(2)) as usize, number(take(4)) as usize, number(take(2)) as usize);
+        let (m, n) = (number(take(2)) as usize, number(take(4)) as usize);
+        let (room, sums_room) = (number(take(2)) as usize, number(take(2)) as usize);
         let profile = Profile { points: take(m), delta, gamma };
-        cases.push(Case { profile, recording: take(n), room });
-        left -= 16 + m + n;
+        cases.push(Case { profile, recording: take(n), room, sums_room });
+        left -= 18 + m + n;
     }
     Ok(cases)
 }
@@ -64,13 +72,10 @@ pub fn answers(case: &Case) -> Vec<String> {
     let profile = &case.profile;
     let mut lines = Vec::new();
     for (searcher, name) in SEARCHERS {
-        let mut list: Vec<u32> = (0..case.room as u32).map(|k| UNTOUCHED + k).collect();
-        let search = reference::search(searcher, profile, &case.recording, &mut list);
-        let mut line = format!("{name} {} {} {}", search.refusal, search.total, search.tried);
-        for entry in list {
-            line += &format!(" {entry}");
-        }
-        lines.push(line);
+        let mut list: Vec<u32> = (UNTOUCHED..).take(case.room).collect();
+        let mut sums: Vec<u16> = (UNTOUCHED_SUM..).take(case.sums_room).collect();
+        let search = reference::search(searcher, profile, &case.recording, &mut list, &mut sums);
+        lines.push(search_line(name, search, &list, &sums));
     }
     lines.push(first_line(reference::first(profile, &case.recording)));
     let greatest_number = profile.m().min(64) + 1;
@@ -83,6 +88,19 @@ pub fn answers(case: &Case) -> Vec<String> {
     lines.push(check_line(windows.map(|s| reference::check(profile, &case.recording, s)).collect()));
     assert_eq!(lines.len(), LINES);
     lines
+}
+
+/// The refusal, the total of places, the count of windows tried and the least sum; then both lists.
+fn search_line(name: &str, search: Search, list: &[u32], sums: &[u16]) -> String {
+    let mut line = format!("{name} {} {} {} {}", search.refusal, search.total, search.tried, search.least);
+    for entry in list {
+        line += &format!(" {entry}");
+    }
+    line += " sums";
+    for entry in sums {
+        line += &format!(" {entry}");
+    }
+    line
 }
 
 /// The refusal, 1 and the place or two zeros, and the count of windows tried.
@@ -128,10 +146,11 @@ pub fn describe(case: &Case) -> String {
     let shown = &case.recording[..case.recording.len().min(300)];
     let cut = if shown.len() < case.recording.len() { " .." } else { "" };
     format!(
-        "  delta {}, gamma {}, room {}\n  {} points: {}\n  {} readings: {}{cut}",
+        "  delta {}, gamma {}, a list of {} and sums of {}\n  {} points: {}\n  {} readings: {}{cut}",
         case.profile.delta,
         case.profile.gamma,
         case.room,
+        case.sums_room,
         case.profile.points.len(),
         spaced(&case.profile.points),
         case.recording.len(),

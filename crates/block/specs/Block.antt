@@ -5,9 +5,9 @@ use lib.ListN.{getD}
 use lib.Dec.{leb}
 use Rattle.fit.specs.Answer.{Sought}
 
--- of the 64 windows from s on, those are places whose score is at most gamma
+-- of the 64 windows from s on, those are places whose score is at most gamma, and it is their sum
 abbrev pub toldBy : List ℕ → ℕ → ℕ → Sought
-toldBy scores s gamma = record { count = s + 64; place = λ w. leb (getD scores (w - s) 0) gamma }
+toldBy scores s gamma = record { count = s + 64; place = λ w. leb (getD scores (w - s) 0) gamma; sum = λ w. getD scores (w - s) 0 }
 
 -- none of the k scores from `at` on is below `least`
 pub record NoneBelow (scores : List ℕ) (at k least : ℕ) : Type 0 where

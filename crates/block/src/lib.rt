@@ -1,5 +1,5 @@
-// 64 windows at a time: first which of them fit, and where any does, the scores of all, which tell the places. Most blocks have no window that fits, and
-// are only counted. A block leaves just what its windows leave when they are tried one by one.
+// 64 windows at a time: first which of them fit, and where any does, the scores of all, which tell the places and their sums. Most blocks have no
+// window that fits, and are only counted. A block leaves just what its windows leave when they are tried one by one.
 use fit::Search;
 ghost use mathlib.Core.Path.{_≡_};
 ghost use Prim.Native.Nat.{_+_, _≤_, _<_, _^_, min};
@@ -39,6 +39,7 @@ fn least_of(scores: &[u16; 64], at: usize) -> u16
 fn note_sixteen(
     gamma: u32,
     list: &mut [u32],
+    sums: &mut [u16],
     s: usize,
     scores: &[u16; 64],
     at: usize,
@@ -47,7 +48,8 @@ fn note_sixteen(
     requires { ⌜ (at + 16 ≤ 64) × (length (now scores) ≡ 64) × (s + 64 < 2 ^ 32) ⌝ }
     requires { ⌜ (before .total ≤ before .tried) × (before .tried ≤ s + at) ⌝ }
     ensures { λ r. ⌜
-        TriedAll (toldBy (now (scores .entry)) s gamma) (run (s + at) 16) before (lent (now (list .entry))) r (lent (now (list .exit))) ⌝ }
+        TriedAll (toldBy (now (scores .entry)) s gamma) (run (s + at) 16) before
+        (lent (now (list .entry)) (now (sums .entry))) r (lent (now (list .exit)) (now (sums .exit))) ⌝ }
 {
     if gamma < wide(least_of(scores, at)) {
         return window::note_none(16, before);
@@ -55,22 +57,31 @@ fn note_sixteen(
     let mut found = before;
     let mut j = at;
     while j < at + 16 {
-        found = window::note(list, s + j, wide(scores[j]) <= gamma, found);
+        let score = scores[j];
+        found = window::note(list, sums, s + j, wide(score) <= gamma, score, found);
         j += 1;
     }
     found
 }
 
 // Notes the 64 windows from s on by their scores. Places stand close together, so most pieces of 16 have none, and are only counted.
-fn note_scored(gamma: u32, list: &mut [u32], s: usize, scores: &[u16; 64], before: Search) -> Search
+fn note_scored(
+    gamma: u32,
+    list: &mut [u32],
+    sums: &mut [u16],
+    s: usize,
+    scores: &[u16; 64],
+    before: Search,
+) -> Search
     requires { ⌜ (length (now scores) ≡ 64) × (s + 64 < 2 ^ 32) × (before .total ≤ before .tried) × (before .tried ≤ s) ⌝ }
     ensures { λ r. ⌜
-        TriedAll (toldBy (now (scores .entry)) s gamma) (run s 64) before (lent (now (list .entry))) r (lent (now (list .exit))) ⌝ }
+        TriedAll (toldBy (now (scores .entry)) s gamma) (run s 64) before
+        (lent (now (list .entry)) (now (sums .entry))) r (lent (now (list .exit)) (now (sums .exit))) ⌝ }
 {
     let mut found = before;
     let mut at = 0;
     while at < 64 {
-        found = note_sixteen(gamma, list, s, scores, at, found);
+        found = note_sixteen(gamma, list, sums, s, scores, at, found);
         at += 16;
     }
     found
@@ -83,6 +94,7 @@ pub fn try_block(
     gamma: u32,
     recording: &[u8],
     list: &mut [u32],
+    sums: &mut [u16],
     s: usize,
     before: Search,
 ) -> Search
@@ -90,12 +102,12 @@ pub fn try_block(
     requires { ⌜ (before .total ≤ before .tried) × (before .tried ≤ s) ⌝ }
     ensures { λ r. ⌜
         TriedAll (soughtBy (ruleIn (now (spans .entry))) m gamma (now (recording .entry))) (run s 64) before
-        (lent (now (list .entry))) r (lent (now (list .exit))) ⌝ }
+        (lent (now (list .entry)) (now (sums .entry))) r (lent (now (list .exit)) (now (sums .exit))) ⌝ }
 {
     let fitting = sieve::sifted(spans, m, recording, s);
     if fitting.any {
         let scores = score::scores(spans, m, recording, s, &fitting.marks);
-        return note_scored(gamma, list, s, &scores, before);
+        return note_scored(gamma, list, sums, s, &scores, before);
     }
     window::note_none(64, before)
 }

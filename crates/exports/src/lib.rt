@@ -27,13 +27,14 @@ pub extern "C" fn jilbaroof_plain(
     gamma: u32,
     recording: &[u8],
     list: &mut [u32],
+    sums: &mut [u16],
 ) -> Search
     ensures { λ r. ⌜
         Answers delta gamma (now (points .entry)) (now (recording .entry))
         (windows (length (now (points .entry))) (length (now (recording .entry))))
-        (lent (now (list .entry))) r (lent (now (list .exit))) ⌝ }
+        (lent (now (list .entry)) (now (sums .entry))) r (lent (now (list .exit)) (now (sums .exit))) ⌝ }
 {
-    plain::search(points, delta, gamma, recording, list)
+    plain::search(points, delta, gamma, recording, list, sums)
 }
 
 // packed: a counter for each point, side by side in as many words as needed.
@@ -44,13 +45,14 @@ pub extern "C" fn jilbaroof_packed(
     gamma: u32,
     recording: &[u8],
     list: &mut [u32],
+    sums: &mut [u16],
 ) -> Search
     ensures { λ r. ⌜
         Answers delta gamma (now (points .entry)) (now (recording .entry))
         (windows (length (now (points .entry))) (length (now (recording .entry))))
-        (lent (now (list .entry))) r (lent (now (list .exit))) ⌝ }
+        (lent (now (list .entry)) (now (sums .entry))) r (lent (now (list .exit)) (now (sums .exit))) ⌝ }
 {
-    packed::search(points, delta, gamma, recording, list)
+    packed::search(points, delta, gamma, recording, list, sums)
 }
 
 // last: a window's last reading says how far to jump.
@@ -61,13 +63,14 @@ pub extern "C" fn jilbaroof_last(
     gamma: u32,
     recording: &[u8],
     list: &mut [u32],
+    sums: &mut [u16],
 ) -> Search
     ensures { λ r. ⌜
         Answers delta gamma (now (points .entry)) (now (recording .entry))
         (length (lastWalkOf delta gamma (now (points .entry)) (now (recording .entry))))
-        (lent (now (list .entry))) r (lent (now (list .exit))) ⌝ }
+        (lent (now (list .entry)) (now (sums .entry))) r (lent (now (list .exit)) (now (sums .exit))) ⌝ }
 {
-    last::search(points, delta, gamma, recording, list)
+    last::search(points, delta, gamma, recording, list, sums)
 }
 
 // skip: every m-th reading is probed.
@@ -78,13 +81,14 @@ pub extern "C" fn jilbaroof_skip(
     gamma: u32,
     recording: &[u8],
     list: &mut [u32],
+    sums: &mut [u16],
 ) -> Search
     ensures { λ r. ⌜
         Answers delta gamma (now (points .entry)) (now (recording .entry))
         (length (skipWalk (fitOf (dOf delta gamma) (now (points .entry))) (length (now (points .entry))) (now (recording .entry))))
-        (lent (now (list .entry))) r (lent (now (list .exit))) ⌝ }
+        (lent (now (list .entry)) (now (sums .entry))) r (lent (now (list .exit)) (now (sums .exit))) ⌝ }
 {
-    skip::search(points, delta, gamma, recording, list)
+    skip::search(points, delta, gamma, recording, list, sums)
 }
 
 // maximal: the larger of the next-reading jump and the mismatch jump is taken.
@@ -95,13 +99,14 @@ pub extern "C" fn jilbaroof_maximal(
     gamma: u32,
     recording: &[u8],
     list: &mut [u32],
+    sums: &mut [u16],
 ) -> Search
     ensures { λ r. ⌜
         Answers delta gamma (now (points .entry)) (now (recording .entry))
         (length (maximalWalk (dOf delta gamma) (now (points .entry)) (now (recording .entry))))
-        (lent (now (list .entry))) r (lent (now (list .exit))) ⌝ }
+        (lent (now (list .entry)) (now (sums .entry))) r (lent (now (list .exit)) (now (sums .exit))) ⌝ }
 {
-    maximal::search(points, delta, gamma, recording, list)
+    maximal::search(points, delta, gamma, recording, list, sums)
 }
 
 // The first place, or none, in numbers.

@@ -6,10 +6,11 @@ use lib.ListN.{replicate}
 use Rattle.fit.specs.Reading.{near}
 use Rattle.fit.specs.Rule.{allFit, sumCost, isPlaceBy}
 use Rattle.fit.specs.Place.{isPlace}
-use Rattle.fit.specs.Listing.{upTo, places}
+use Rattle.fit.specs.Listing.{upTo, places, overlay}
+use Rattle.fit.specs.Sums.{leastOf}
 use Rattle.fit.specs.Refusal.{orElse, searchRefusal}
 use Rattle.fit.specs.Verdict.{farAt, fitsWith, overWith, brokenAt, judged, verdictBy, verdictOf}
-use Rattle.fit.specs.Answer.{soughtOf, lent, filled}
+use Rattle.fit.specs.Answer.{soughtOf, lent, outcome, filled}
 
 -- a reading that differs by d is near, one that differs by d + 1 is not; 1 is the least that can be, and 0 is near to no point
 pub near-edges : (near 1 40 41 ≡ true) × (near 1 40 42 ≡ false) × (near 1 2 1 ≡ true) × (near 1 1 0 ≡ false) × (near 255 1 0 ≡ false)
@@ -36,10 +37,18 @@ pub eight-edges : (searchRefusal 0 0 (1 ∷ 0 ∷ []) [] ≡ 8) × (searchRefusa
 unfolding searchRefusal
 eight-edges = (refl, refl)
 
--- refused, a list keeps its entries
-pub refusal-edges : filled (searchRefusal 256 0 [] []) (soughtOf 256 0 [] (7 ∷ [])) (lent (5 ∷ [])) ≡ lent (5 ∷ [])
+-- refused, both lists keep their entries
+pub refusal-edges : filled (searchRefusal 256 0 [] []) (soughtOf 256 0 [] (7 ∷ [])) (lent (5 ∷ []) (6 ∷ [])) ≡ lent (5 ∷ []) (6 ∷ [])
 unfolding searchRefusal filled
 refusal-edges = refl
+
+-- two places, of which the second is the closer: into a list of one entry and sums of three; and of no place the least is 0
+pub sums-edges :
+    (outcome 0 (soughtOf 1 2 (40 ∷ 40 ∷ []) (41 ∷ 41 ∷ 40 ∷ [])) 2 ≡ record { refusal = 0; total = 2; tried = 2; least = 1 })
+    × (filled 0 (soughtOf 1 2 (40 ∷ 40 ∷ []) (41 ∷ 41 ∷ 40 ∷ [])) (lent (7 ∷ []) (7 ∷ 7 ∷ 7 ∷ [])) ≡ lent (0 ∷ []) (2 ∷ 1 ∷ 7 ∷ []))
+    × (outcome 0 (soughtOf 1 2 (40 ∷ 40 ∷ []) (44 ∷ 44 ∷ [])) 1 ≡ record { refusal = 0; total = 0; tried = 1; least = 0 })
+unfolding outcome filled leastOf overlay upTo isPlace isPlaceBy allFit sumCost near
+sums-edges = (refl, refl, refl)
 
 -- what the check answers: a sum of gamma and of gamma + 1; the first far point, though the sum is exceeded before it, and though delta would allow it
 -- and gamma alone does not; a 0

@@ -1,6 +1,7 @@
 pub mod Bools
 pub mod Readings
 pub mod Listings
+pub mod Sums
 pub mod Risings
 pub mod Rules
 pub mod Places
@@ -14,6 +15,7 @@ pub mod Compiled
 pub mod Steps
 pub mod Answers
 pub mod Openings
+pub mod Closest
 pub mod Alongs
 pub mod Tryings
 pub mod Filters

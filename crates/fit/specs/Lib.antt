@@ -3,6 +3,7 @@ pub mod Reading
 pub mod Rule
 pub mod Place
 pub mod Listing
+pub mod Sums
 pub mod Walk
 pub mod Chain
 pub mod Refusal

@@ -7,11 +7,11 @@ use Rattle.fit.specs.declared.answer.Search.{Search}
 
 unfoldable pub countsAfter : Sought → List ℕ → Search → Search
 countsAfter t [] r = r
-countsAfter t (s ∷ ws) r = countsAfter t ws (noted (t .place s) r)
+countsAfter t (s ∷ ws) r = countsAfter t ws (noted (t .place s) (t .sum s) r)
 
 unfoldable pub listsAfter : Sought → List ℕ → Search → Lent → Lent
 listsAfter t [] r l = l
-listsAfter t (s ∷ ws) r l = listsAfter t ws (noted (t .place s) r) (listed (t .place s) s (r .total) l)
+listsAfter t (s ∷ ws) r l = listsAfter t ws (noted (t .place s) (t .sum s) r) (listed (t .place s) (t .sum s) s (r .total) l)
 
 -- the windows ws were tried
 pub record TriedAll (t : Sought) (ws : List ℕ) (before : Search) (entry : Lent) (r : Search) (final : Lent) : Type 0 where
@@ -20,7 +20,7 @@ pub record TriedAll (t : Sought) (ws : List ℕ) (before : Search) (entry : Lent
 
 -- k windows more were tried, and none of them is a place
 abbrev pub missed : ℕ → Search → Search
-missed k r = record { refusal = r .refusal; total = r .total; tried = r .tried + k }
+missed k r = record { refusal = r .refusal; total = r .total; tried = r .tried + k; least = r .least }
 
 -- the k windows from s on
 unfoldable pub run : ℕ → ℕ → List ℕ

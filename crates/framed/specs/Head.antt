@@ -9,7 +9,7 @@ unfoldable pub numberAt : List ℕ → ℕ → ℕ → ℕ
 numberAt bytes from zero = 0
 numberAt bytes from (suc k) = numberAt bytes from k * 256 + getD bytes (from + k) 0
 
--- delta and gamma in 4 bytes each, m in 2, n in 4, room in 2
+-- delta and gamma in 4 bytes each, m in 2, n in 4, room and sums in 2 each
 unfoldable pub headOf : List ℕ → Head
 headOf bytes =
     record {
@@ -18,4 +18,5 @@ headOf bytes =
       m = numberAt bytes 8 2;
       n = numberAt bytes 10 4;
       room = numberAt bytes 14 2;
+      sums = numberAt bytes 16 2;
     }

@@ -4,16 +4,17 @@ ghost use Prim.Native.Nat.{_<_, _≤_, _^_};
 ghost use lib.ListN.{getD};
 ghost use Rattle.framed.specs.Head.{numberAt, headOf};
 
-// The tolerances, the number of points and of readings, and the length of the lent list.
+// The tolerances, the number of points and of readings, and for how many places and how many sums there is room in the lent lists.
 pub struct Head {
     pub delta: u32,
     pub gamma: u32,
     pub m: usize,
     pub n: usize,
     pub room: usize,
+    pub sums: usize,
 }
 
-// The bytes 0 to 15 as a head; a byte that is missing counts as 0.
+// The bytes 0 to 17 as a head; a byte that is missing counts as 0.
 pub fn head_of(bytes: &[u8]) -> Head
     ensures { λ r. ⌜ r ≡ headOf (now (bytes .entry)) ⌝ }
 {
@@ -22,12 +23,14 @@ pub fn head_of(bytes: &[u8]) -> Head
     let m = two_at(bytes, 8);
     let n = four_at(bytes, 10);
     let room = two_at(bytes, 14);
+    let sums = two_at(bytes, 16);
     Head {
         delta,
         gamma,
         m: m as usize,
         n: n as usize,
         room: room as usize,
+        sums: sums as usize,
     }
 }
 
@@ -39,7 +42,7 @@ fn four_at(bytes: &[u8], from: usize) -> u32
 }
 
 fn two_at(bytes: &[u8], from: usize) -> u32
-    requires { ⌜ from ≤ 14 ⌝ }
+    requires { ⌜ from ≤ 16 ⌝ }
     ensures { λ r. ⌜ (r ≡ numberAt (now (bytes .entry)) from 2) × (r < 2 ^ 16) ⌝ }
 {
     byte_at(bytes, from) * 256 + byte_at(bytes, from + 1)

@@ -7,12 +7,19 @@ ghost use Rattle.fit.specs.Place.{dOf};
 ghost use Rattle.fit.specs.Answer.{lent, Answers};
 ghost use Rattle.maximal.specs.Walk.{maximalWalk};
 
-// Lists the places of the profile in the recording, and counts them and the windows tried.
-pub fn search(points: &[u8], delta: u32, gamma: u32, recording: &[u8], list: &mut [u32]) -> Search
+// Lists the places of the profile in the recording and their sums, and counts the places and the windows tried.
+pub fn search(
+    points: &[u8],
+    delta: u32,
+    gamma: u32,
+    recording: &[u8],
+    list: &mut [u32],
+    sums: &mut [u16],
+) -> Search
     ensures { λ r. ⌜
         Answers delta gamma (now (points .entry)) (now (recording .entry))
         (length (maximalWalk (dOf delta gamma) (now (points .entry)) (now (recording .entry))))
-        (lent (now (list .entry))) r (lent (now (list .exit))) ⌝ }
+        (lent (now (list .entry)) (now (sums .entry))) r (lent (now (list .exit)) (now (sums .exit))) ⌝ }
 {
     let checked = fit::checked_search(points, delta, gamma, recording);
     let mut found = fit::begin(checked.refusal);
@@ -35,7 +42,7 @@ pub fn search(points: &[u8], delta: u32, gamma: u32, recording: &[u8], list: &mu
         // the jump is looked up before the window is tried: so the compiler keeps in registers what each step needs
         let jump = step::compared_jump(m, &order, &jumps, full, leading);
         let larger = step::larger_jump(&next, m, recording, s, jump);
-        found = step::try_compared(&spans, m, gamma, recording, list, s, leading, found);
+        found = step::try_compared(&spans, m, gamma, recording, list, sums, s, leading, found);
         s += larger;
     }
     found

@@ -40,6 +40,7 @@ pub(crate) fn try_compared(
     gamma: u32,
     recording: &[u8],
     list: &mut [u32],
+    sums: &mut [u16],
     s: usize,
     leading: usize,
     before: Search,
@@ -49,12 +50,12 @@ pub(crate) fn try_compared(
     requires { ⌜ (leading < m → isPlaceBy (ruleIn (now spans)) m gamma (now recording) s ≡ false) ⌝ }
     ensures { λ r. ⌜
         Tried (soughtBy (ruleIn (now (spans .entry))) m gamma (now (recording .entry))) s before
-        (lent (now (list .entry))) r (lent (now (list .exit))) ⌝ }
+        (lent (now (list .entry)) (now (sums .entry))) r (lent (now (list .exit)) (now (sums .exit))) ⌝ }
 {
     if leading < m {
-        return window::note(list, s, false, before);
+        return window::note(list, sums, s, false, 0, before);
     }
-    window::try_at(spans, m, gamma, recording, list, s, before)
+    window::try_at(spans, m, gamma, recording, list, sums, s, before)
 }
 
 // The mismatch jump of the point that is compared after `leading` others, or the full jump.

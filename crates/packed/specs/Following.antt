@@ -1,5 +1,5 @@
 -- What the scan goes by, what holds of its words, and what it answers. Assumes nothing.
-use Prim.Native.Nat.{ℕ, suc, _*_, _≤_, _<_}
+use Prim.Native.Nat.{ℕ, suc, _+_, _*_, _^_, _≤_, _<_}
 use mathlib.Core.Bool.{true}
 use mathlib.Core.Path.{_≡_}
 use mathlib.Core.List.{List}
@@ -7,7 +7,7 @@ use lib.ListN.{length}
 use Rattle.fit.specs.Reading.{highest}
 use Rattle.fit.specs.Rule.{Rule}
 use Rattle.fit.specs.Place.{windows}
-use Rattle.fit.specs.Refusal.{maxReadings}
+use Rattle.fit.specs.Refusal.{maxGamma, maxReadings}
 use Rattle.fit.specs.Answer.{Sought, soughtBy, Lent, Answer}
 use Rattle.fit.specs.declared.answer.Search.{Search}
 use Rattle.counters.specs.Words.{Needed, AgreesAcross, SmallAcross}
@@ -28,6 +28,7 @@ pub record Scannable (masks : Masks) (m k : ℕ) (t y : List ℕ) : Type 0 where
   pub needed : Needed (masks .per) m k
   pub addable : Addable (masks .b) (masks .g) (masks .per) k t
   pub short : length y ≤ maxReadings
+  pub g-small : masks .g ≤ maxGamma
 
 -- "Each step must agree, counter by counter, with m separate sums": the k words after j readings of y. The separate sums go on above the
 -- last point, as the counters do; nothing is asked of them there.
@@ -35,11 +36,16 @@ pub record Follows (masks : Masks) (k : ℕ) (t y words : List ℕ) (j : ℕ) : 
   pub long : length words ≡ k
   pub agrees : AgreesAcross (masks .b) (masks .g) (masks .per) words (after (masks .g) (costIn (suc (masks .b)) (masks .per) k t) y j)
 
+-- a counter that is a sum and what it started at, where a 16-bit number holds the sum
+pub record Short (enter c : ℕ) : Type 0 where
+  pub grown : enter ≤ c
+  pub short : c < enter + 2 ^ 16
+
 -- the rule that every reading suits, so that the sum alone decides: one that is not near has put it above g
 abbrev pub summing : (ℕ → ℕ → ℕ) → Rule
 summing cost = record { fit = λ i a. true; cost = cost }
 
--- what the counter of point m tells of every window: whether its sum, by the table, is at most g
+-- what the counter of point m tells of every window: whether its sum, by the table, is at most g, and then the sum
 abbrev pub soughtIn : Masks → ℕ → ℕ → List ℕ → List ℕ → Sought
 soughtIn masks m k t y = soughtBy (summing (costIn (suc (masks .b)) (masks .per) k t)) m (masks .g) y
 

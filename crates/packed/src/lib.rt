@@ -15,18 +15,19 @@ const MAX_WORDS: usize = 16;
 // Room for as many words for each reading.
 const TABLE_WORDS: usize = 256 * MAX_WORDS;
 
-// Lists the places of the profile in the recording, and counts them and the windows.
+// Lists the places of the profile in the recording and their sums, and counts the places and the windows.
 pub fn search(
     points: &[u8],
     delta: u32,
     gamma: u32,
     recording: &[u8],
     list: &mut [u32],
+    sums: &mut [u16],
 ) -> fit::Search
     ensures { λ r. ⌜
         Answers delta gamma (now (points .entry)) (now (recording .entry))
         (windows (length (now (points .entry))) (length (now (recording .entry))))
-        (lent (now (list .entry))) r (lent (now (list .exit))) ⌝ }
+        (lent (now (list .entry)) (now (sums .entry))) r (lent (now (list .exit)) (now (sums .exit))) ⌝ }
 {
     // first of all: the compiler would lose a register if it took this much room later (docs/DECISIONS.md, What is compiled)
     let mut table = [0u64; TABLE_WORDS];
@@ -44,5 +45,5 @@ pub fn search(
     let per = k.per as usize;
     let used = (m + (per - 1)) / per;
     adding::additions(points, per, used, b + 1, d, g as u64, &mut table);
-    scan::scan(k, m, used, &table, recording, list, begun)
+    scan::scan(k, m, used, &table, recording, list, sums, begun)
 }

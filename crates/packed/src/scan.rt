@@ -2,14 +2,16 @@
 use counters::Masks;
 use fit::Search;
 ghost use mathlib.Core.Path.{_≡_};
-ghost use Prim.Native.Nat.{suc, _+_, _-_, _*_, _%_, _^_, _≤_};
+ghost use mathlib.Core.Bool.{true, cond};
+ghost use Prim.Native.Nat.{suc, _+_, _-_, _*_, _%_, _^_, _≤_, _<_};
 ghost use lib.ListN.{length, replicate};
 ghost use Rattle.fit.specs.Place.{windows};
 ghost use Rattle.fit.specs.Answer.{lent, begun};
+ghost use Rattle.counters.specs.Word.{counter};
 ghost use Rattle.counters.specs.Words.{Whole, TurnedAcross};
 ghost use Rattle.counters.specs.Sound.{Sound};
 ghost use Rattle.adding.specs.Tables.{rowOf};
-ghost use Rattle.packed.specs.Following.{Addable, Scannable, Follows, Scans};
+ghost use Rattle.packed.specs.Following.{Addable, Scannable, Follows, Short, Scans};
 ghost use Rattle.packed.specs.Needs.{maxWords};
 
 // The words after reading a: a counter enters at point 1, and the table's words are added.
@@ -42,17 +44,36 @@ fn read_lead(k: Masks, m: usize, table: &[u64], words: &mut [u64], recording: &[
     lead
 }
 
-// The top bit of the last point's counter, in its word.
-fn last_bit(k: Masks, m: usize) -> u64
+// Which counter of its word is the last point's.
+fn last_at(k: Masks, m: usize) -> u32
     requires { ⌜ Sound k × (1 ≤ m) ⌝ }
-    ensures { λ r. ⌜ r ≡ 2 ^ (suc (k .b) * ((m - 1) % k .per) + k .b) ⌝ }
+    ensures { λ r. ⌜ (r ≡ (m - 1) % k .per) × (r < k .per) ⌝ }
 {
-    let at = ((m - 1) % (k.per as usize)) as u32;
+    ((m - 1) % (k.per as usize)) as u32
+}
+
+// The top bit of counter `at` of a word.
+fn top_bit(k: Masks, at: u32) -> u64
+    requires { ⌜ Sound k × (at < k .per) ⌝ }
+    ensures { λ r. ⌜ r ≡ 2 ^ (suc (k .b) * at + k .b) ⌝ }
+{
     1u64 << ((k.b + 1) * at + k.b)
 }
 
+// The sum of a place, which counter `at` of the word tells: the counter less what it started at. Of a window that is none, 0.
+fn told_sum(k: Masks, at: u32, word: u64, hit: bool) -> u16
+    requires { ⌜ Sound k × (at < k .per) × (hit ≡ true → Short (k .enter) (counter (suc (k .b)) word at)) ⌝ }
+    ensures { λ r. ⌜ r ≡ cond hit (counter (suc (k .b)) word at - k .enter) 0 ⌝ }
+{
+    if hit {
+        let value = (word >> ((k.b + 1) * at)) % (1u64 << (k.b + 1));
+        return (value - k.enter) as u16;
+    }
+    0
+}
+
 // Reads the readings behind the lead, and tries the window that ends at each: it is a place where the top bit of the last point's counter is
-// clear. That counter stands in the last word.
+// clear, and then that counter tells its sum. It stands in the last word.
 fn read_windows(
     k: Masks,
     m: usize,
@@ -61,6 +82,7 @@ fn read_windows(
     lead: usize,
     recording: &[u8],
     list: &mut [u32],
+    sums: &mut [u16],
     before: Search,
 ) -> Search
     requires { ⌜ Scannable k m (length (now words)) (now table) (now recording) × (before ≡ begun 0) ⌝ }
@@ -68,17 +90,20 @@ fn read_windows(
         × Follows k (length (now words)) (now table) (now recording) (now words) lead ⌝ }
     ensures { λ r. ⌜
         Scans k m (length (now (words .entry))) (now (table .entry)) (now (recording .entry))
-        (lent (now (list .entry))) r (lent (now (list .exit))) ⌝ }
+        (lent (now (list .entry)) (now (sums .entry))) r (lent (now (list .exit)) (now (sums .exit))) ⌝ }
 {
     let last = words.len() - 1;
-    let bit = last_bit(k, m);
+    let at = last_at(k, m);
+    let bit = top_bit(k, at);
     let count = recording.len() - lead;
     let mut found = before;
     let mut s = 0;
     while s < count {
         read_one(k, table, words, recording[lead + s]);
         let word = words[last];
-        found = window::note(list, s, word & bit == 0, found);
+        let hit = word & bit == 0;
+        let sum = told_sum(k, at, word, hit);
+        found = window::note(list, sums, s, hit, sum, found);
         s += 1;
     }
     found
@@ -93,32 +118,34 @@ pub(crate) fn scan(
     table: &[u64],
     recording: &[u8],
     list: &mut [u32],
+    sums: &mut [u16],
     before: Search,
 ) -> Search
     requires { ⌜ Scannable k m used (now table) (now recording) × (used ≤ maxWords) × (before ≡ begun 0) ⌝ }
     ensures { λ r. ⌜
-        Scans k m used (now (table .entry)) (now (recording .entry)) (lent (now (list .entry))) r (lent (now (list .exit))) ⌝ }
+        Scans k m used (now (table .entry)) (now (recording .entry))
+        (lent (now (list .entry)) (now (sums .entry))) r (lent (now (list .exit)) (now (sums .exit))) ⌝ }
 {
     let top = k.top;
     if used == 1 {
         let mut words = [top; 1];
         let lead = read_lead(k, m, table, &mut words, recording);
-        return read_windows(k, m, table, &mut words, lead, recording, list, before);
+        return read_windows(k, m, table, &mut words, lead, recording, list, sums, before);
     }
     if used == 2 {
         let mut words = [top; 2];
         let lead = read_lead(k, m, table, &mut words, recording);
-        return read_windows(k, m, table, &mut words, lead, recording, list, before);
+        return read_windows(k, m, table, &mut words, lead, recording, list, sums, before);
     }
     if used == 3 {
         let mut words = [top; 3];
         let lead = read_lead(k, m, table, &mut words, recording);
-        return read_windows(k, m, table, &mut words, lead, recording, list, before);
+        return read_windows(k, m, table, &mut words, lead, recording, list, sums, before);
     }
     if used == 4 {
         let mut words = [top; 4];
         let lead = read_lead(k, m, table, &mut words, recording);
-        return read_windows(k, m, table, &mut words, lead, recording, list, before);
+        return read_windows(k, m, table, &mut words, lead, recording, list, sums, before);
     }
     let mut words = [top; crate::MAX_WORDS];
     let lead = read_lead(k, m, table, &mut words[0..used], recording);
@@ -130,6 +157,7 @@ pub(crate) fn scan(
         lead,
         recording,
         list,
+        sums,
         before,
     )
 }

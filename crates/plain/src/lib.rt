@@ -10,12 +10,19 @@ ghost use Rattle.fit.specs.Spans.{ruleIn, Ready};
 ghost use Rattle.fit.specs.Answer.{soughtBy, lent, begun, Answer, Answers};
 ghost use Rattle.fit.specs.Trying.{TriedAll, run};
 
-// Lists the places of the profile in the recording, and counts them and the windows.
-pub fn search(points: &[u8], delta: u32, gamma: u32, recording: &[u8], list: &mut [u32]) -> Search
+// Lists the places of the profile in the recording and their sums, and counts the places and the windows.
+pub fn search(
+    points: &[u8],
+    delta: u32,
+    gamma: u32,
+    recording: &[u8],
+    list: &mut [u32],
+    sums: &mut [u16],
+) -> Search
     ensures { λ r. ⌜
         Answers delta gamma (now (points .entry)) (now (recording .entry))
         (windows (length (now (points .entry))) (length (now (recording .entry))))
-        (lent (now (list .entry))) r (lent (now (list .exit))) ⌝ }
+        (lent (now (list .entry)) (now (sums .entry))) r (lent (now (list .exit)) (now (sums .exit))) ⌝ }
 {
     let checked = fit::checked_search(points, delta, gamma, recording);
     let found = fit::begin(checked.refusal);
@@ -25,7 +32,7 @@ pub fn search(points: &[u8], delta: u32, gamma: u32, recording: &[u8], list: &mu
     let tolerance = checked.tolerance;
     let d = tolerance.d();
     let spans = ordinary::spans_of(checked.profile, d);
-    over_spans(&spans, points.len(), gamma, recording, list, found)
+    over_spans(&spans, points.len(), gamma, recording, list, sums, found)
 }
 
 // The same for a profile of m points that is compiled to spans, whatever its points are.
@@ -35,22 +42,23 @@ pub fn over_spans(
     gamma: u32,
     recording: &[u8],
     list: &mut [u32],
+    sums: &mut [u16],
     start: Search,
 ) -> Search
     requires { ⌜ Ready (now spans) m gamma (length (now recording)) × (start ≡ begun 0) ⌝ }
     ensures { λ r. ⌜
         Answer 0 (soughtBy (ruleIn (now (spans .entry))) m gamma (now (recording .entry)))
         (windows m (length (now (recording .entry))))
-        (lent (now (list .entry))) r (lent (now (list .exit))) ⌝ }
+        (lent (now (list .entry)) (now (sums .entry))) r (lent (now (list .exit)) (now (sums .exit))) ⌝ }
 {
     let count = window::count_windows(m, recording);
     let mut found = start;
     let mut s = 0;
     while s + 64 <= count {
-        found = block::try_block(spans, m, gamma, recording, list, s, found);
+        found = block::try_block(spans, m, gamma, recording, list, sums, s, found);
         s += 64;
     }
-    one_by_one(spans, m, gamma, recording, list, s, found)
+    one_by_one(spans, m, gamma, recording, list, sums, s, found)
 }
 
 // Tries the windows from the one at `from` on. A function of its own, so that nothing but the block stands in the loop above: what is the same for every
@@ -61,6 +69,7 @@ fn one_by_one(
     gamma: u32,
     recording: &[u8],
     list: &mut [u32],
+    sums: &mut [u16],
     from: usize,
     before: Search,
 ) -> Search
@@ -69,13 +78,13 @@ fn one_by_one(
     ensures { λ r. ⌜
         TriedAll (soughtBy (ruleIn (now (spans .entry))) m gamma (now (recording .entry)))
         (run from (windows m (length (now (recording .entry))) - from)) before
-        (lent (now (list .entry))) r (lent (now (list .exit))) ⌝ }
+        (lent (now (list .entry)) (now (sums .entry))) r (lent (now (list .exit)) (now (sums .exit))) ⌝ }
 {
     let count = window::count_windows(m, recording);
     let mut found = before;
     let mut s = from;
     while s < count {
-        found = window::try_at(spans, m, gamma, recording, list, s, found);
+        found = window::try_at(spans, m, gamma, recording, list, sums, s, found);
         s += 1;
     }
     found

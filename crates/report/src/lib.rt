@@ -40,7 +40,7 @@ fn no_places() -> [u32; input::MAX_INPUT]
     [0; input::MAX_INPUT]
 }
 
-// A line for each searcher, and then the places that plain found, all of which the list can hold.
+// A line for each searcher, and then the places that plain found, all of which the list can hold. No line has a sum, so none is kept.
 fn with_list(
     page: &mut [u8],
     points: &[u8],
@@ -54,7 +54,8 @@ fn with_list(
         Put (now (page .entry)) 0 (reportOn delta gamma (now (points .entry)) (now (recording .entry))) r
         (now (page .exit)) ⌝ }
 {
-    let found = plain::search(points, delta, gamma, recording, list);
+    let mut no_sums = [0u16; 0];
+    let found = plain::search(points, delta, gamma, recording, list, &mut no_sums);
     let told = lines::put_line(page, 0, b"plain", found);
     let end = put_others(page, told, points, delta, gamma, recording);
     lines::put_places(page, end, &list[..found.total])
@@ -74,12 +75,13 @@ fn put_others(
         (now (page .exit)) ⌝ }
 {
     let mut none = [0u32; 0];
-    let packed = packed::search(points, delta, gamma, recording, &mut none);
+    let mut no_sums = [0u16; 0];
+    let packed = packed::search(points, delta, gamma, recording, &mut none, &mut no_sums);
     let end = lines::put_line(page, at, b"packed", packed);
-    let last = last::search(points, delta, gamma, recording, &mut none);
+    let last = last::search(points, delta, gamma, recording, &mut none, &mut no_sums);
     let end = lines::put_line(page, end, b"last", last);
-    let skip = skip::search(points, delta, gamma, recording, &mut none);
+    let skip = skip::search(points, delta, gamma, recording, &mut none, &mut no_sums);
     let end = lines::put_line(page, end, b"skip", skip);
-    let maximal = maximal::search(points, delta, gamma, recording, &mut none);
+    let maximal = maximal::search(points, delta, gamma, recording, &mut none, &mut no_sums);
     lines::put_line(page, end, b"maximal", maximal)
 }

@@ -9,12 +9,19 @@ ghost use Rattle.fit.specs.Answer.{soughtBy, lent, begun, Answer, Answers};
 ghost use Rattle.skip.specs.Walk.{probed, skipWalk};
 ghost use Rattle.fit.specs.Trying.{TriedAll};
 
-// Lists the places of the profile in the recording, and counts them and the windows tried.
-pub fn search(points: &[u8], delta: u32, gamma: u32, recording: &[u8], list: &mut [u32]) -> Search
+// Lists the places of the profile in the recording and their sums, and counts the places and the windows tried.
+pub fn search(
+    points: &[u8],
+    delta: u32,
+    gamma: u32,
+    recording: &[u8],
+    list: &mut [u32],
+    sums: &mut [u16],
+) -> Search
     ensures { λ r. ⌜
         Answers delta gamma (now (points .entry)) (now (recording .entry))
         (length (skipWalk (fitOf (dOf delta gamma) (now (points .entry))) (length (now (points .entry))) (now (recording .entry))))
-        (lent (now (list .entry))) r (lent (now (list .exit))) ⌝ }
+        (lent (now (list .entry)) (now (sums .entry))) r (lent (now (list .exit)) (now (sums .exit))) ⌝ }
 {
     let checked = fit::checked_search(points, delta, gamma, recording);
     let found = fit::begin(checked.refusal);
@@ -24,7 +31,7 @@ pub fn search(points: &[u8], delta: u32, gamma: u32, recording: &[u8], list: &mu
     let tolerance = checked.tolerance;
     let d = tolerance.d();
     let spans = ordinary::spans_of(checked.profile, d);
-    over_spans(&spans, points.len(), gamma, recording, list, found)
+    over_spans(&spans, points.len(), gamma, recording, list, sums, found)
 }
 
 // The same for a profile of m points that is compiled to spans, whatever its points are.
@@ -34,18 +41,19 @@ pub fn over_spans(
     gamma: u32,
     recording: &[u8],
     list: &mut [u32],
+    sums: &mut [u16],
     start: Search,
 ) -> Search
     requires { ⌜ Ready (now spans) m gamma (length (now recording)) × (start ≡ begun 0) ⌝ }
     ensures { λ r. ⌜
         Answer 0 (soughtBy (ruleIn (now (spans .entry))) m gamma (now (recording .entry)))
         (length (skipWalk (ruleIn (now (spans .entry)) .fit) m (now (recording .entry))))
-        (lent (now (list .entry))) r (lent (now (list .exit))) ⌝ }
+        (lent (now (list .entry)) (now (sums .entry))) r (lent (now (list .exit)) (now (sums .exit))) ⌝ }
 {
     let mut found = start;
     let mut q = m - 1;
     while q < recording.len() {
-        found = try_probed(spans, m, gamma, recording, list, q, found);
+        found = try_probed(spans, m, gamma, recording, list, sums, q, found);
         q += m;
     }
     found
@@ -58,6 +66,7 @@ fn try_probed(
     gamma: u32,
     recording: &[u8],
     list: &mut [u32],
+    sums: &mut [u16],
     q: usize,
     before: Search,
 ) -> Search
@@ -66,7 +75,7 @@ fn try_probed(
     ensures { λ r. ⌜
         TriedAll (soughtBy (ruleIn (now (spans .entry))) m gamma (now (recording .entry)))
         (probed (ruleIn (now (spans .entry)) .fit) m (now (recording .entry)) q m) before
-        (lent (now (list .entry))) r (lent (now (list .exit))) ⌝ }
+        (lent (now (list .entry)) (now (sums .entry))) r (lent (now (list .exit)) (now (sums .exit))) ⌝ }
 {
     let n = recording.len();
     let a = recording[q];
@@ -76,7 +85,7 @@ fn try_probed(
         i -= 1;
         if window::suits(spans, i, a) {
             if q - i + m <= n {
-                found = window::try_at(spans, m, gamma, recording, list, q - i, found);
+                found = window::try_at(spans, m, gamma, recording, list, sums, q - i, found);
             }
         }
     }

@@ -19,7 +19,7 @@ const MOST_READINGS: usize = 1000001;
 
 // Reads one frame and prints its case. False at the end of the input, and where a frame is cut short or too large.
 fn one_case(points: &mut [u8], recording: &mut [u8]) -> bool {
-    let mut bytes = [0u8; 16];
+    let mut bytes = [0u8; 18];
     let got = io::read_full(STDIN_FILENO, &mut bytes);
     if got == 0 {
         return false;
@@ -28,22 +28,16 @@ fn one_case(points: &mut [u8], recording: &mut [u8]) -> bool {
     let m = read_start(points, head.m);
     let n = read_start(recording, head.n);
     if is_whole(got, m, n, head) {
-        print_case(
-            &points[..m],
-            head.delta,
-            head.gamma,
-            &recording[..n],
-            head.room,
-        );
+        print_case(&points[..m], &recording[..n], head);
         return true;
     }
     io::write_all(STDOUT_FILENO, b"frame cut short, or too large\n");
     false
 }
 
-// Whether all that the head says came: so many of its 16 bytes, of the points and of the readings.
+// Whether all that the head says came: so many of its 18 bytes, of the points and of the readings.
 fn is_whole(got: usize, m: usize, n: usize, head: Head) -> bool {
-    if got < 16 {
+    if got < 18 {
         return false;
     }
     if m < head.m {
@@ -52,12 +46,12 @@ fn is_whole(got: usize, m: usize, n: usize, head: Head) -> bool {
     head.n <= n
 }
 
-// Prints the lines of one case, with lent lists of `room` entries.
-fn print_case(points: &[u8], delta: u32, gamma: u32, recording: &[u8], room: usize) {
+// Prints the lines of one case, with the tolerances and lent lists that its head asks for.
+fn print_case(points: &[u8], recording: &[u8], head: Head) {
     let mut page = io::large_buffer();
-    let at = searched::searches(&mut page, points, delta, gamma, recording, room);
-    let at = asked::questions(&mut page, at, points, delta, gamma);
-    let at = judged::windows(&mut page, at, points, delta, gamma, recording);
+    let at = searched::searches(&mut page, points, recording, head);
+    let at = asked::questions(&mut page, at, points, head.delta, head.gamma);
+    let at = judged::windows(&mut page, at, points, head.delta, head.gamma, recording);
     lines::write(&page, at);
 }
 

@@ -1,8 +1,10 @@
-// The lines of the searchers: the refusal, the total of places, the count of windows tried, and every entry of the lent list. Then that of
-// `first`, which has no list: the refusal, 1 where there is a place, that place, and the count of windows tried.
+// The lines of the searchers: the refusal, the total of places, the count of windows tried, the least sum, every entry of the list of places and,
+// behind the word `sums`, of the list of sums. Then that of `first`, which has no list: the refusal, 1 where there is a place, that place, and the
+// count of windows tried.
 use super::lines;
 use first::Flat;
 use fit::Search;
+use framed::Head;
 
 // A lent list has at most so many entries.
 const MOST_ROOM: usize = 200;
@@ -16,35 +18,30 @@ enum By {
     Maximal,
 }
 
-// A line for each searcher, each with a list of its own of so many entries, and the line of `first`.
-pub(crate) fn searches(
-    page: &mut [u8],
-    points: &[u8],
-    delta: u32,
-    gamma: u32,
-    recording: &[u8],
-    room: usize,
-) -> usize {
-    let at = with_list(page, 0, By::Plain, points, delta, gamma, recording, room);
-    let at = with_list(page, at, By::Packed, points, delta, gamma, recording, room);
-    let at = with_list(page, at, By::Last, points, delta, gamma, recording, room);
-    let at = with_list(page, at, By::Skip, points, delta, gamma, recording, room);
-    let at = with_list(page, at, By::Maximal, points, delta, gamma, recording, room);
-    first_place(page, at, points, delta, gamma, recording)
+// A line for each searcher, each with lists of its own, as long as the head says, and the line of `first`.
+pub(crate) fn searches(page: &mut [u8], points: &[u8], recording: &[u8], head: Head) -> usize {
+    let at = with_lists(page, 0, By::Plain, points, recording, head);
+    let at = with_lists(page, at, By::Packed, points, recording, head);
+    let at = with_lists(page, at, By::Last, points, recording, head);
+    let at = with_lists(page, at, By::Skip, points, recording, head);
+    let at = with_lists(page, at, By::Maximal, points, recording, head);
+    first_place(page, at, points, head.delta, head.gamma, recording)
 }
 
-fn with_list(
+fn with_lists(
     page: &mut [u8],
     at: usize,
     by: By,
     points: &[u8],
-    delta: u32,
-    gamma: u32,
     recording: &[u8],
-    room: usize,
+    head: Head,
 ) -> usize {
     let mut list = [0u32; MOST_ROOM];
-    if MOST_ROOM < room {
+    let mut sums = [0u16; MOST_ROOM];
+    if MOST_ROOM < head.room {
+        return at;
+    }
+    if MOST_ROOM < head.sums {
         return at;
     }
     line(
@@ -52,14 +49,15 @@ fn with_list(
         at,
         by,
         points,
-        delta,
-        gamma,
+        head.delta,
+        head.gamma,
         recording,
-        &mut list[..room],
+        &mut list[..head.room],
+        &mut sums[..head.sums],
     )
 }
 
-// The searcher's name, what it answers, and the list, whose entries are marked before the search.
+// The line of one searcher. The entries of both lists are marked before the search.
 fn line(
     page: &mut [u8],
     at: usize,
@@ -69,13 +67,22 @@ fn line(
     gamma: u32,
     recording: &[u8],
     list: &mut [u32],
+    sums: &mut [u16],
 ) -> usize {
     lines::mark(list);
-    let found = search(by, points, delta, gamma, recording, list);
+    lines::mark_sums(sums);
+    let found = search(by, points, delta, gamma, recording, list, sums);
+    answer(page, at, by, found, list, sums)
+}
+
+// The searcher's name, what it answers, and both lists.
+fn answer(page: &mut [u8], at: usize, by: By, found: Search, list: &[u32], sums: &[u16]) -> usize {
     let named = name(page, at, by);
     let counted = counts(page, named, found);
     let listed = lines::entries(page, counted, list);
-    page::put_text(page, listed, b"\n")
+    let parted = page::put_text(page, listed, b" sums");
+    let told = lines::sum_entries(page, parted, sums);
+    page::put_text(page, told, b"\n")
 }
 
 fn name(page: &mut [u8], at: usize, by: By) -> usize {
@@ -91,7 +98,8 @@ fn name(page: &mut [u8], at: usize, by: By) -> usize {
 fn counts(page: &mut [u8], at: usize, found: Search) -> usize {
     let refused = lines::spaced(page, at, found.refusal as u64);
     let counted = lines::spaced(page, refused, found.total as u64);
-    lines::spaced(page, counted, found.tried as u64)
+    let tried = lines::spaced(page, counted, found.tried as u64);
+    lines::spaced(page, tried, found.least as u64)
 }
 
 fn search(
@@ -101,13 +109,14 @@ fn search(
     gamma: u32,
     recording: &[u8],
     list: &mut [u32],
+    sums: &mut [u16],
 ) -> Search {
     match by {
-        By::Plain => plain::search(points, delta, gamma, recording, list),
-        By::Packed => packed::search(points, delta, gamma, recording, list),
-        By::Last => last::search(points, delta, gamma, recording, list),
-        By::Skip => skip::search(points, delta, gamma, recording, list),
-        By::Maximal => maximal::search(points, delta, gamma, recording, list),
+        By::Plain => plain::search(points, delta, gamma, recording, list, sums),
+        By::Packed => packed::search(points, delta, gamma, recording, list, sums),
+        By::Last => last::search(points, delta, gamma, recording, list, sums),
+        By::Skip => skip::search(points, delta, gamma, recording, list, sums),
+        By::Maximal => maximal::search(points, delta, gamma, recording, list, sums),
     }
 }
 

@@ -7,7 +7,7 @@ ghost use lib.Dec.{eqb};
 ghost use Rattle.fit.specs.Rule.{isPlaceBy};
 ghost use Rattle.fit.specs.Place.{windows};
 ghost use Rattle.fit.specs.Refusal.{maxPoints};
-ghost use Rattle.fit.specs.Verdict.{toldOf, verdictBy};
+ghost use Rattle.fit.specs.Verdict.{toldOf, placeSum, verdictBy};
 ghost use Rattle.fit.specs.Spans.{ruleIn};
 
 // How many windows of m readings lie inside the recording.
@@ -42,7 +42,7 @@ pub fn check_at(spans: &[u16], m: usize, gamma: u32, recording: &[u8], s: usize)
 }
 
 // Whether the verdict is that the window is a place.
-fn fits(verdict: Verdict) -> bool
+pub(crate) fn fits(verdict: Verdict) -> bool
     ensures { λ r. ⌜ r ≡ eqb (toldOf verdict .kind) 1 ⌝ }
 {
     match verdict {
@@ -52,7 +52,18 @@ fn fits(verdict: Verdict) -> bool
     }
 }
 
-// Whether the window at s is a place, for those that ask no reason.
+// The sum of a place; 0 where the verdict is that the window is none.
+pub(crate) fn place_sum(verdict: Verdict) -> u32
+    ensures { λ r. ⌜ r ≡ placeSum (toldOf verdict) ⌝ }
+{
+    match verdict {
+        Verdict::Fits(sum) => sum,
+        Verdict::Far(_) => 0,
+        Verdict::Over(_) => 0,
+    }
+}
+
+// Whether the window at s is a place, for those that ask neither reason nor sum.
 pub fn is_place(spans: &[u16], m: usize, gamma: u32, recording: &[u8], s: usize) -> bool
     requires { ⌜ (m ≤ maxPoints) × (4 * m ≤ length (now spans)) × (s + m ≤ length (now recording)) ⌝ }
     ensures { λ r. ⌜ r ≡ isPlaceBy (ruleIn (now (spans .entry))) m gamma (now (recording .entry)) s ⌝ }

@@ -4,6 +4,7 @@ ghost use mathlib.Core.Path.{_≡_};
 ghost use Prim.Native.Nat.{_+_, _*_, _≤_, _<_, _^_};
 ghost use lib.ListN.{length, set};
 ghost use Rattle.fit.specs.Refusal.{maxPoints, maxGamma};
+ghost use Rattle.fit.specs.Sums.{lowered};
 ghost use Rattle.fit.specs.Spans.{ruleIn};
 ghost use Rattle.fit.specs.Answer.{soughtBy, lent, Noted, Tried};
 ghost use Rattle.fit.specs.Trying.{missed};
@@ -18,23 +19,54 @@ fn put(list: &mut [u32], at: usize, s: usize)
     }
 }
 
-// One window more was tried, at s: where it is a place, it is counted and listed.
-pub fn note(list: &mut [u32], s: usize, hit: bool, before: Search) -> Search
+// Writes the sum of a place as entry `at` of the sums, if they go that far.
+fn put_sum(sums: &mut [u16], at: usize, sum: u16)
+    ensures { λ _. ⌜ now (sums .exit) ≡ set (now (sums .entry)) at sum ⌝ }
+{
+    if at < sums.len() {
+        sums[at] = sum;
+    }
+}
+
+// The least of `count` sums and one more, where `least` is theirs.
+fn lower(count: usize, least: u32, sum: u16) -> u32
+    ensures { λ r. ⌜ r ≡ lowered count least sum ⌝ }
+{
+    let more = sum as u32;
+    if count == 0 {
+        return more;
+    }
+    if more < least { more } else { least }
+}
+
+// One window more was tried, at s: where it is a place, it is counted, and listed with its sum. Of a window that is none the sum is not used.
+pub fn note(
+    list: &mut [u32],
+    sums: &mut [u16],
+    s: usize,
+    hit: bool,
+    sum: u16,
+    before: Search,
+) -> Search
     requires { ⌜ (s < 2 ^ 32) × (before .total < 2 ^ 32) × (before .tried < 2 ^ 32) ⌝ }
-    ensures { λ r. ⌜ Noted hit s before (lent (now (list .entry))) r (lent (now (list .exit))) ⌝ }
+    ensures { λ r. ⌜
+        Noted hit sum s before (lent (now (list .entry)) (now (sums .entry))) r (lent (now (list .exit)) (now (sums .exit))) ⌝ }
 {
     if hit {
         put(list, before.total, s);
+        put_sum(sums, before.total, sum);
         return Search {
             refusal: before.refusal,
             total: before.total + 1,
             tried: before.tried + 1,
+            least: lower(before.total, before.least, sum),
         };
     }
     Search {
         refusal: before.refusal,
         total: before.total,
         tried: before.tried + 1,
+        least: before.least,
     }
 }
 
@@ -47,6 +79,7 @@ pub fn note_none(k: usize, before: Search) -> Search
         refusal: before.refusal,
         total: before.total,
         tried: before.tried + k,
+        least: before.least,
     }
 }
 
@@ -57,6 +90,7 @@ pub fn try_at(
     gamma: u32,
     recording: &[u8],
     list: &mut [u32],
+    sums: &mut [u16],
     s: usize,
     before: Search,
 ) -> Search
@@ -64,8 +98,10 @@ pub fn try_at(
     requires { ⌜ (s < 2 ^ 32) × (before .total < 2 ^ 32) × (before .tried < 2 ^ 32) ⌝ }
     ensures { λ r. ⌜
         Tried (soughtBy (ruleIn (now (spans .entry))) m gamma (now (recording .entry))) s before
-        (lent (now (list .entry))) r (lent (now (list .exit))) ⌝ }
+        (lent (now (list .entry)) (now (sums .entry))) r (lent (now (list .exit)) (now (sums .exit))) ⌝ }
 {
-    let hit = super::check::is_place(spans, m, gamma, recording, s);
-    note(list, s, hit, before)
+    let verdict = super::check::check_at(spans, m, gamma, recording, s);
+    let hit = super::check::fits(verdict);
+    let sum = super::check::place_sum(verdict) as u16;
+    note(list, sums, s, hit, sum, before)
 }

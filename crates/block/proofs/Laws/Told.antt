@@ -1,6 +1,6 @@
 -- Laws of what scores tell: of one window, of 16 and of 64. Assumes nothing.
 use mathlib.Core.Path.{_≡_, refl, sym, ap, _∙_}
-use mathlib.Core.Bool.{false}
+use mathlib.Core.Bool.{true, false}
 use mathlib.Core.Logic.{⊎-elim}
 use mathlib.Core.List.{List}
 use Prim.Native.Nat.{ℕ, _+_, _-_, _≤_, _<_, min}
@@ -9,17 +9,20 @@ use native.Mathlib.Omega.{arith}
 use lib.ListN.{length, getD}
 use lib.Dec.{leb}
 use borrow.Author.Tests.{lt-leb}
-use Rattle.fit.specs.Rule.{Rule, isPlaceBy}
+use Rattle.fit.specs.Rule.{Rule, sumCost, isPlaceBy}
 use Rattle.fit.specs.Verdict.{verdictBy}
 use Rattle.fit.specs.Refusal.{maxGamma}
 use Rattle.fit.specs.Listing.{Entries}
 use Rattle.score.specs.Score.{scoreIn}
-use Rattle.score.proofs.Laws.Scores.{score-place}
+use Rattle.score.proofs.Laws.Scores.{score-place, score-sum}
 use Rattle.block.specs.Block.{toldBy, NoneBelow}
 
 -- ---- the window at s + j, by its score
 pub told-at : (scores : List ℕ) (s gamma j v : ℕ) → v ≡ getD scores j 0 → leb v gamma ≡ toldBy scores s gamma .place (s + j)
 told-at scores s gamma j v e = let own : s + j - s ≡ j = omega arith in rw (own, e)
+
+pub told-sum-at : (scores : List ℕ) (s gamma j : ℕ) → getD scores j 0 ≡ toldBy scores s gamma .sum (s + j)
+told-sum-at scores s gamma j = let own : s + j - s ≡ j = omega arith in rw own
 
 -- ---- the least of 16 scores
 pub none-below : (scores : List ℕ) (at least : ℕ) → NoneBelow scores at 0 least
@@ -42,7 +45,12 @@ told-none scores s gamma at least f l j h =
     rw own (lt-leb (getD scores (at + j) 0) gamma (omega (arith, f .each j h)))
 
 -- ---- what the scores tell is what is sought
-pub told-places : (r : Rule) (y : List ℕ) (s m gamma : ℕ) {scores : List ℕ} → Entries (λ j. scoreIn (verdictBy r m gamma y (s + j))) 64 scores → s + 63 + m ≤ length y
-    → gamma ≤ maxGamma → (j : ℕ) → j < 64 → toldBy scores s gamma .place (s + j) ≡ isPlaceBy r m gamma y (s + j)
-told-places r y s m gamma {scores} e inside g j h =
-    sym (told-at scores s gamma j (getD scores j 0) refl) ∙ ap (λ (v : ℕ). leb v gamma) (e .each j h) ∙ score-place r m gamma y (s + j) (omega arith) g
+module _ (r : Rule) (y : List ℕ) (s m gamma : ℕ) {scores : List ℕ} (e : Entries (λ j. scoreIn (verdictBy r m gamma y (s + j))) 64 scores)
+    (inside : s + 63 + m ≤ length y) (g : gamma ≤ maxGamma) (j : ℕ) (h : j < 64) where
+  pub told-places : toldBy scores s gamma .place (s + j) ≡ isPlaceBy r m gamma y (s + j)
+  told-places =
+      sym (told-at scores s gamma j (getD scores j 0) refl) ∙ ap (λ (v : ℕ). leb v gamma) (e .each j h) ∙ score-place r m gamma y (s + j) (omega arith) g
+
+  pub told-sums : toldBy scores s gamma .place (s + j) ≡ true → toldBy scores s gamma .sum (s + j) ≡ sumCost (r .cost) y (s + j) m
+  told-sums p =
+      sym (told-sum-at scores s gamma j) ∙ e .each j h ∙ score-sum r m gamma y (s + j) (omega arith) g (sym told-places ∙ p)

@@ -13,18 +13,18 @@ use Rattle.block.proofs.note_scored.Statement.{statement}
 use Rattle.block.proofs.note_scored.Tie as tie
 
 abbrev Inv-loop : tie.InvT-loop
-Inv-loop gamma list₀ s scores found₀ at₀ list found at =
+Inv-loop gamma list₀ sums₀ s scores found₀ at₀ list sums found at =
     (length scores ≡ 64) × (s + 64 < 2 ^ 32) × (at % 16 ≡ 0) × (at ≤ 64)
-    × Trying (toldBy scores s gamma) (run s 64) (run (s + at) (s + 64 - (s + at))) (s + at) (lent list₀) (lent list) found₀ found
+    × Trying (toldBy scores s gamma) (run s 64) (run (s + at) (s + 64 - (s + at))) (s + at) (lent list₀ sums₀) (lent list sums) found₀ found
 
 abbrev μ-loop : tie.MeasureT-loop
-μ-loop gamma list₀ s scores found₀ at₀ list found at = 64 - at
+μ-loop gamma list₀ sums₀ s scores found₀ at₀ list sums found at = 64 - at
 
 loop-holds : tie.Need-loop-holds Inv-loop μ-loop
-loop-holds c = let known = c .before .pre in (known .0, known .1, refl, omega arith, running-start _ _ _ _ _ (omega arith) refl (known .2) (known .3))
+loop-holds c = let known = c .before .before .pre in (known .0, known .1, refl, omega arith, running-start _ _ _ _ _ (omega arith) refl (known .2) (known .3))
 
 note-sixteen-requires : tie.Need-note-sixteen-requires Inv-loop μ-loop
-note-sixteen-requires c κs = let inv = c .before .before .loop .inv in ((omega arith, inv .0, inv .1), (inv .4 .order, inv .4 .room))
+note-sixteen-requires c κs = let inv = c .before .before .before .loop .inv in ((omega arith, inv .0, inv .1), (inv .4 .order, inv .4 .room))
 
 add-at : tie.Need-add-at Inv-loop μ-loop
 add-at c = omega arith
@@ -34,12 +34,15 @@ loop-less c = omega arith
 
 loop-again : tie.Need-loop-again Inv-loop μ-loop
 loop-again c =
-    let noted = c .before .before in
-    let inv = noted .before .before .before .loop .inv in
+    let noted = c .before .before .before .before in
+    let inv = noted .before .before .before .before .loop .inv in
     (inv .0, inv .1, omega arith, omega arith, running-all _ _ _ (inv .4) _ _ (omega arith) (omega arith) (noted .note-sixteen .ensures))
 
 same-length : tie.Need-same-length Inv-loop μ-loop
 same-length c = search needs
+
+same-length-2 : tie.Need-same-length-2 Inv-loop μ-loop
+same-length-2 c = search needs
 
 returns : tie.Need-returns Inv-loop μ-loop
 returns c = let inv = c .before .loop .inv in running-end _ _ _ (inv .4) (omega arith)
@@ -56,4 +59,5 @@ note-scored-spec =
     loop-less
     loop-again
     same-length
+    same-length-2
     returns)

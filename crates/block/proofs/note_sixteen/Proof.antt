@@ -10,17 +10,17 @@ use Rattle.fit.proofs.Laws.Answers.{noted-as}
 use Rattle.fit.proofs.Laws.Tryings.{Trying}
 use Rattle.fit.proofs.Laws.Runs.{running-start, running-one, running-end, run-no-place}
 use Rattle.block.specs.Block.{toldBy}
-use Rattle.block.proofs.Laws.Told.{told-at, told-none}
+use Rattle.block.proofs.Laws.Told.{told-at, told-sum-at, told-none}
 use Rattle.block.proofs.note_sixteen.Statement.{statement}
 use Rattle.block.proofs.note_sixteen.Tie as tie
 
 abbrev Inv-loop : tie.InvT-loop
-Inv-loop gamma list₀ s scores at found₀ j₀ list found j =
+Inv-loop gamma list₀ sums₀ s scores at found₀ j₀ list sums found j =
     (at + 16 ≤ 64) × (length scores ≡ 64) × (s + 64 < 2 ^ 32) × (j ≤ at + 16)
-    × Trying (toldBy scores s gamma) (run (s + at) 16) (run (s + j) (s + at + 16 - (s + j))) (s + j) (lent list₀) (lent list) found₀ found
+    × Trying (toldBy scores s gamma) (run (s + at) 16) (run (s + j) (s + at + 16 - (s + j))) (s + j) (lent list₀ sums₀) (lent list sums) found₀ found
 
 abbrev μ-loop : tie.MeasureT-loop
-μ-loop gamma list₀ s scores at found₀ j₀ list found j = at + 16 - j
+μ-loop gamma list₀ sums₀ s scores at found₀ j₀ list sums found j = at + 16 - j
 
 least-of-requires : tie.Need-least-of-requires Inv-loop μ-loop
 least-of-requires c κs = search needs
@@ -39,20 +39,20 @@ returns c =
 
 loop-holds : tie.Need-loop-holds Inv-loop μ-loop
 loop-holds c =
-    let known = c .before .before .before .before .pre in
+    let known = c .before .before .before .before .before .pre in
     (known .0 .0, known .0 .1, known .0 .2, omega arith, running-start _ _ _ _ _ refl refl (known .1 .0) (known .1 .1))
 
 add-loop : tie.Need-add-loop Inv-loop μ-loop
 add-loop c = omega arith
 
+mul-score : tie.Need-mul-score Inv-loop μ-loop
+mul-score c = omega arith
+
+element-copy-out-score : tie.Need-element-copy-out-score Inv-loop μ-loop
+element-copy-out-score c = omega arith
+
 add-note : tie.Need-add-note Inv-loop μ-loop
 add-note c = omega arith
-
-mul-wide : tie.Need-mul-wide Inv-loop μ-loop
-mul-wide c = omega arith
-
-element-copy-out-wide : tie.Need-element-copy-out-wide Inv-loop μ-loop
-element-copy-out-wide c = omega arith
 
 wide-requires-2 : tie.Need-wide-requires-2 Inv-loop μ-loop
 wide-requires-2 c κs = search needs
@@ -68,20 +68,24 @@ loop-less c = omega arith
 
 loop-again : tie.Need-loop-again Inv-loop μ-loop
 loop-again c =
-    let noted = c .before .before in
-    let at-loop = noted .before .before .before .before .before in
+    let noted = c .before .before .before .before in
+    let at-loop = noted .before .before .before .before .before .before in
     let inv = at-loop .loop .inv in
-    let given = at-loop .before .before .before .before .before .args in (
+    let given = at-loop .before .before .before .before .before .before .args in (
       inv .0,
       inv .1,
       inv .2,
       omega arith,
       running-one _ _ _ (inv .4) _ (omega arith) (omega arith)
-          (noted-as _ _ _ _ _ (told-at (given .scores .now) (given .s) _ (at-loop .loop .j) _ (noted .before .wide2 .ensures)) (noted .note .ensures)),
+          (noted-as _ _ _ _ _ _ _ (told-at (given .scores .now) (given .s) _ (at-loop .loop .j) _ (noted .before .wide2 .ensures))
+          (λ _. told-sum-at (given .scores .now) (given .s) (given .gamma) (at-loop .loop .j)) (noted .note .ensures)),
     )
 
 same-length : tie.Need-same-length Inv-loop μ-loop
 same-length c = search needs
+
+same-length-2 : tie.Need-same-length-2 Inv-loop μ-loop
+same-length-2 c = search needs
 
 returns-2 : tie.Need-returns-2 Inv-loop μ-loop
 returns-2 c = let inv = c .before .loop .inv in running-end _ _ _ (inv .4) (omega arith)
@@ -98,13 +102,14 @@ note-sixteen-spec =
     returns
     loop-holds
     add-loop
+    mul-score
+    element-copy-out-score
     add-note
-    mul-wide
-    element-copy-out-wide
     wide-requires-2
     note-requires
     add-j
     loop-less
     loop-again
     same-length
+    same-length-2
     returns-2)

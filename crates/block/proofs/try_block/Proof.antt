@@ -3,7 +3,7 @@ use mathlib.Core.Path.{sym, _∙_}
 use borrow.Author.Needs.{needs}
 use Rattle.fit.proofs.Laws.Runs.{run-same, run-no-place}
 use Rattle.sieve.proofs.Laws.Passes.{no-place}
-use Rattle.block.proofs.Laws.Told.{told-places}
+use Rattle.block.proofs.Laws.Told.{told-places, told-sums}
 use Rattle.block.proofs.try_block.Statement.{statement}
 use Rattle.block.proofs.try_block.Tie as tie
 
@@ -19,12 +19,17 @@ note-scored-requires c κs = search needs
 same-length : tie.Need-same-length
 same-length c = search needs
 
+same-length-2 : tie.Need-same-length-2
+same-length-2 c = search needs
+
 returns : tie.Need-returns
 returns c =
-    let noted = c .before .before in
-    let scored = noted .before .before .before in
-    let known = c .before .before .before .before .before .before .before .before .before .before .before .before .before .pre in
-    run-same _ _ _ _ (told-places _ _ _ _ _ (scored .scores .ensures _) (known .0 .1) (known .0 .0 .gamma-small)) (noted .note-scored .ensures)
+    let noted = c .before .before .before .before in
+    let scored = noted .before .before .before .before in
+    let known = scored .before .before .before .before .before .before .before .before .before .pre in
+    let told = scored .scores .ensures _ in
+    run-same _ _ _ _ (told-places _ _ _ _ _ told (known .0 .1) (known .0 .0 .gamma-small)) (told-sums _ _ _ _ _ told (known .0 .1) (known .0 .0 .gamma-small))
+    (noted .note-scored .ensures)
 
 note-none-requires : tie.Need-note-none-requires
 note-none-requires c κs = search needs
@@ -42,6 +47,7 @@ try-block-spec =
     scores-requires
     note-scored-requires
     same-length
+    same-length-2
     returns
     note-none-requires
     returns-2)

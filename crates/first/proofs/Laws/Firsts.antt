@@ -10,7 +10,7 @@ use Rattle.fit.specs.Place.{Place, isPlace}
 use Rattle.fit.specs.Listing.{Rising, places, overlay}
 use Rattle.fit.specs.Listing.Rising.{none, next}
 use Rattle.fit.specs.Refusal.{searchRefusal, Accepted}
-use Rattle.fit.specs.Answer.{soughtOf, Lent, lent, Answer, Answers}
+use Rattle.fit.specs.Answer.{soughtOf, Lent, Answer, Answers}
 use Rattle.fit.specs.declared.answer.Search.{Search}
 use Rattle.fit.proofs.Laws.Bools.{is-false}
 use Rattle.fit.proofs.Laws.Refusals.{accepted, none-exactly}
@@ -220,7 +220,7 @@ module _ (delta gamma : ℕ) (x y : List ℕ) (r : First)
         (walk-rises delta gamma x y (ok-at .asked)) (walk-has delta gamma x y (ok-at .asked) s at-place))
 
   -- beside last's own answer: never more windows, and as many where there is no place
-  module _ (entry final : List ℕ) (q : Search) (b : Answers delta gamma x y (length (lastWalkOf delta gamma x y)) (lent entry) q (lent final)) where
+  module _ (entry final : Lent) (q : Search) (b : Answers delta gamma x y (length (lastWalkOf delta gamma x y)) entry q final) where
     by-number : (C : Type 0) → ((ok : Accepted delta gamma x y) → r .tried ≡ length (upToPlace (isPlace delta gamma x y) (lastWalkOf delta gamma x y))
         → q .tried ≡ length (lastWalkOf delta gamma x y) → C) → (r .tried ≡ 0 → q .tried ≡ 0 → C) → C
     by-number C f g = go (searchRefusal delta gamma x y) refl

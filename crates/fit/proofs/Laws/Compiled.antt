@@ -11,8 +11,8 @@ use lib.Seq.{take-suc, length-take-le, getD-append-add}
 use lib.Dec.{leb, eqb}
 use borrow.Author.Tests.{leb-true, le-leb, eqb-true, eq-eqb}
 use Rattle.fit.specs.Reading.{lowest, near}
-use Rattle.fit.specs.Rule.{SameRule, isPlaceBy}
-use Rattle.fit.specs.Place.{fitOf, ruleOf, Place, dOf}
+use Rattle.fit.specs.Rule.{SameRule, readingAt, sumCost, isPlaceBy}
+use Rattle.fit.specs.Place.{fitOf, costOf, ruleOf, sumDiff, Place, dOf}
 use Rattle.fit.specs.Verdict.{verdictBy, verdictOf}
 use Rattle.fit.specs.Listing.{overlay}
 use Rattle.fit.specs.Refusal.{maxPoints, Accepted}
@@ -21,7 +21,7 @@ use Rattle.fit.specs.Answer.{soughtBy, soughtOf, Lent, Answer, Answers}
 use Rattle.fit.specs.declared.answer.Search.{Search}
 use Rattle.fit.proofs.Laws.Bools.{and-left, and-right, and-both, same-test}
 use Rattle.fit.proofs.Laws.Readings.{near-le, near-lowest, le-near}
-use Rattle.fit.proofs.Laws.Rules.{same-place}
+use Rattle.fit.proofs.Laws.Rules.{sum-same, same-place}
 use Rattle.fit.proofs.Laws.Places.{by-place, by-derived}
 use Rattle.fit.proofs.Laws.Verdicts.{same-verdict, verdict-derived}
 use Rattle.fit.proofs.Laws.Refusals.{none-exactly}
@@ -113,11 +113,14 @@ span-near delta p a =
     (le-leb (max lowest (p - delta)) a (omega (arith, near-le delta p a t, near-lowest delta p a t)))
     (le-leb a (p + delta) (omega (arith, near-le delta p a t))))
 
+span-cost : (delta : ℕ) (x : List ℕ) → length x ≤ maxPoints → (i a : ℕ) → i < length x → ruleIn (spansOf delta x) .cost i a ≡ costOf x i a
+span-cost delta x few i a l = rw (laid-at delta x i 2 few l (omega arith), laid-at delta x i 3 few l (omega arith))
+
 same-rule : (delta : ℕ) (x : List ℕ) → length x ≤ maxPoints → SameRule (length x) (ruleIn (spansOf delta x)) (ruleOf delta x)
 same-rule delta x few = record {
   same-fit =
       λ i a l. rw (rw add-zero at (laid-at delta x i 0 few l (omega arith)), laid-at delta x i 1 few l (omega arith)) (span-near delta (getD x i 0) a);
-  same-cost = λ i a l e. rw (laid-at delta x i 2 few l (omega arith), laid-at delta x i 3 few l (omega arith));
+  same-cost = λ i a l e. span-cost delta x few i a l;
 }
 
 -- ---- a profile that is compiled: it has its four numbers a point, and their rule asks what the profile's does
@@ -137,6 +140,10 @@ module _ (delta gamma : ℕ) (x spans : List ℕ) (made : spans ≡ spansOf (dOf
   compiled-by : (y : List ℕ) (t : ℕ) → isPlaceBy (ruleIn spans) (length x) gamma y t ≡ isPlaceBy (ruleOf delta x) (length x) gamma y t
   compiled-by y t = same-place (length x) (ruleIn spans) (ruleOf (dOf delta gamma) x) compiled-rule gamma y t ∙ by-derived delta gamma x y t
 
+  -- every window has the profile's sum, a place or not
+  compiled-sum : (y : List ℕ) (s : ℕ) → sumCost (ruleIn spans .cost) y s (length x) ≡ sumDiff x y s
+  compiled-sum y s = sum-same (ruleIn spans .cost) (costOf x) y s (length x) (λ i l. rw made (span-cost (dOf delta gamma) x few i (readingAt y s i) l))
+
   pub compiled-place : (y : List ℕ) (t : ℕ) → isPlaceBy (ruleIn spans) (length x) gamma y t ≡ true → Place delta gamma x y t
   compiled-place y t e = by-place delta gamma x y t (sym (compiled-by y t) ∙ e)
 
@@ -155,7 +162,8 @@ module _ (delta gamma : ℕ) (x y spans : List ℕ) (made : spans ≡ spansOf (d
   }
 
   pub compiled-sought : soughtBy (ruleIn spans) (length x) gamma y ≡ soughtOf delta gamma x y
-  compiled-sought = same-sought (ruleIn spans) delta gamma x y (compiled-by delta gamma x spans made (ok .asked .few) y)
+  compiled-sought =
+      same-sought (ruleIn spans) delta gamma x y (compiled-by delta gamma x spans made (ok .asked .few) y) (compiled-sum delta gamma x spans made (ok .asked .few) y)
 
   pub compiled-answer : (tried tried′ : ℕ) {entry final : Lent} {r : Search} → tried ≡ tried′
       → Answer 0 (soughtBy (ruleIn spans) (length x) gamma y) tried entry r final → Answers delta gamma x y tried′ entry r final

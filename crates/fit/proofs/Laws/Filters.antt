@@ -2,75 +2,94 @@
 -- counted. Assumes nothing.
 use mathlib.Core.Path.{_≡_, refl, sym, ap, _∙_}
 use mathlib.Core.Bool.{Bool, true, false, cond}
-use mathlib.Core.List.{List, [], _∷_}
+use mathlib.Core.List.{List, [], _∷_, map}
 use Prim.Native.Nat.{ℕ, suc, _+_}
 use native.Mathlib.Omega.{arith}
-use lib.ListN.{length}
+use lib.ListN.{length, set}
 use Rattle.fit.specs.Listing.{those}
+use Rattle.fit.specs.Sums.{lowered}
 use Rattle.fit.specs.Answer.{Sought, Lent, noted, listed}
 use Rattle.fit.specs.Trying.{countsAfter, listsAfter, TriedAll, missed}
 use Rattle.fit.specs.declared.answer.Search.{Search}
 use Rattle.fit.proofs.Laws.Tryings.{tried-none}
 
--- ---- what windows leave is told by the places among them, and by how many they are
-abbrev counted : Search → ℕ → ℕ → Search
-counted r total tried = record { refusal = r .refusal; total = total; tried = tried }
+-- ---- what windows leave is told by the places among them, by their sums, and by how many windows they are
+abbrev sumsIn : Sought → List ℕ → List ℕ
+sumsIn t ws = map (t .sum) (those (t .place) ws)
 
-abbrev raised : Search → ℕ → ℕ → Search
-raised r places windows = counted r (r .total + places) (r .tried + windows)
+-- the least after more places, of which only the sums tell
+unfoldable leastAfter : ℕ → ℕ → List ℕ → ℕ
+leastAfter count least [] = least
+leastAfter count least (v ∷ vs) = leastAfter (count + 1) (lowered count least v) vs
 
-same-counts : (r : Search) {total total′ tried tried′ : ℕ} → total ≡ total′ → tried ≡ tried′ → counted r total tried ≡ counted r total′ tried′
-same-counts r e f = λ i. record { refusal = r .refusal; total = e i; tried = f i }
+abbrev raised : Search → List ℕ → ℕ → Search
+raised r vs windows = record { refusal = r .refusal; total = r .total + length vs; tried = r .tried + windows; least = leastAfter (r .total) (r .least) vs }
 
-one-raised : (b : Bool) (s : ℕ) (ps : List ℕ) (k : ℕ) (r : Search) → raised (noted b r) (length ps) k ≡ raised r (length (cond b (s ∷ ps) ps)) (suc k)
-unfolding noted
-one-raised true s ps k r = same-counts r (omega arith) (omega arith)
-one-raised false s ps k r = same-counts r refl (omega arith)
+same-counts : (num : ℕ) {total total′ tried tried′ least least′ : ℕ} → total ≡ total′ → tried ≡ tried′ → least ≡ least′
+    → _≡_ {A = Search} (record { refusal = num; total = total; tried = tried; least = least }) (record { refusal = num; total = total′; tried = tried′; least = least′ })
+same-counts num e f g = λ i. record { refusal = num; total = e i; tried = f i; least = g i }
 
-counts-are : (t : Sought) (ws : List ℕ) (r : Search) → countsAfter t ws r ≡ raised r (length (those (t .place) ws)) (length ws)
-unfolding countsAfter those
-counts-are t [] r = same-counts r (omega arith) (omega arith)
-counts-are t (s ∷ ws) r = counts-are t ws (noted (t .place s) r) ∙ one-raised (t .place s) s (those (t .place) ws) (length ws) r
+one-raised : (b : Bool) (f : ℕ → ℕ) (s : ℕ) (ps : List ℕ) (k : ℕ) (r : Search)
+    → raised (noted b (f s) r) (map f ps) k ≡ raised r (map f (cond b (s ∷ ps) ps)) (suc k)
+unfolding noted leastAfter
+one-raised true f s ps k r = same-counts (r .refusal) (omega arith) (omega arith) refl
+one-raised false f s ps k r = same-counts (r .refusal) refl (omega arith) refl
 
-unfoldable laidAt : List ℕ → ℕ → Lent → Lent
-laidAt [] at l = l
-laidAt (s ∷ ps) at l = laidAt ps (at + 1) (listed true s at l)
+counts-are : (t : Sought) (ws : List ℕ) (r : Search) → countsAfter t ws r ≡ raised r (sumsIn t ws) (length ws)
+unfolding countsAfter those leastAfter
+counts-are t [] r = same-counts (r .refusal) (omega arith) (omega arith) refl
+counts-are t (s ∷ ws) r =
+    counts-are t ws (noted (t .place s) (t .sum s) r) ∙ one-raised (t .place s) (t .sum) s (those (t .place) ws) (length ws) r
 
-one-laid : (b : Bool) (s : ℕ) (ps : List ℕ) (r : Search) (l : Lent) → laidAt ps (noted b r .total) (listed b s (r .total) l) ≡ laidAt (cond b (s ∷ ps) ps) (r .total) l
-unfolding noted listed laidAt
-one-laid true s ps r l = refl
-one-laid false s ps r l = refl
+-- numbers written from an entry on
+unfoldable written : List ℕ → ℕ → List ℕ → List ℕ
+written [] at l = l
+written (v ∷ vs) at l = written vs (at + 1) (set l at v)
 
-lists-are : (t : Sought) (ws : List ℕ) (r : Search) (l : Lent) → listsAfter t ws r l ≡ laidAt (those (t .place) ws) (r .total) l
-unfolding listsAfter those laidAt
+abbrev laidAt : List ℕ → List ℕ → ℕ → Lent → Lent
+laidAt ps vs at l = record { list = written ps at (l .list); sums = written vs at (l .sums) }
+
+one-laid : (b : Bool) (f : ℕ → ℕ) (s : ℕ) (ps : List ℕ) (r : Search) (l : Lent)
+    → laidAt ps (map f ps) (noted b (f s) r .total) (listed b (f s) s (r .total) l) ≡ laidAt (cond b (s ∷ ps) ps) (map f (cond b (s ∷ ps) ps)) (r .total) l
+unfolding noted listed written
+one-laid true f s ps r l = refl
+one-laid false f s ps r l = refl
+
+lists-are : (t : Sought) (ws : List ℕ) (r : Search) (l : Lent) → listsAfter t ws r l ≡ laidAt (those (t .place) ws) (sumsIn t ws) (r .total) l
+unfolding listsAfter those written
 lists-are t [] r l = refl
 lists-are t (s ∷ ws) r l =
-    lists-are t ws (noted (t .place s) r) (listed (t .place s) s (r .total) l) ∙ one-laid (t .place s) s (those (t .place) ws) r l
+    lists-are t ws (noted (t .place s) (t .sum s) r) (listed (t .place s) (t .sum s) s (r .total) l)
+    ∙ one-laid (t .place s) (t .sum) s (those (t .place) ws) r l
 
-lists-same : (t t′ : Sought) (ws ws′ : List ℕ) (r : Search) (l : Lent) → those (t .place) ws ≡ those (t′ .place) ws′ → listsAfter t ws r l ≡ listsAfter t′ ws′ r l
-lists-same t t′ ws ws′ r l same = lists-are t ws r l ∙ ap (λ (ps : List ℕ). laidAt ps (r .total) l) same ∙ sym (lists-are t′ ws′ r l)
+-- ---- the law of a filter: where `some`, by one test, have the places and sums that ws have by the other, to try `some` is to try ws, but for the
+-- count of windows
+abbrev counted : Search → ℕ → Search
+counted r n = record { refusal = r .refusal; total = r .total; tried = n; least = r .least }
 
--- ---- the law of a filter: where `some`, by one test, have the places that ws have by the other, to try `some` is to try ws, but for the count
 pub filtered : (t t′ : Sought) (some ws : List ℕ) (n : ℕ) {before r : Search} {entry final : Lent}
-    → those (t .place) some ≡ those (t′ .place) ws → n ≡ before .tried + length ws → TriedAll t some before entry r final
-    → TriedAll t′ ws before entry (counted r (r .total) n) final
-filtered t t′ some ws n {before} {r} {entry} same e a =
+    → those (t .place) some ≡ those (t′ .place) ws → sumsIn t some ≡ sumsIn t′ ws → n ≡ before .tried + length ws → TriedAll t some before entry r final
+    → TriedAll t′ ws before entry (counted r n) final
+filtered t t′ some ws n {before} {r} {entry} same sums e a =
     let of-some = a .counts ∙ counts-are t some before in
-    let places = ap (λ (ps : List ℕ). before .total + length ps) same in
     record {
-      counts = (λ i. counted (of-some i) (of-some i .total) (e i)) ∙ same-counts before places refl ∙ sym (counts-are t′ ws before);
-      lists = a .lists ∙ lists-same t t′ some ws before entry same;
+      counts =
+          (λ i. counted (of-some i) (e i)) ∙ ap (λ (vs : List ℕ). raised before vs (length ws)) sums ∙ sym (counts-are t′ ws before);
+      lists = a .lists ∙ lists-are t some before entry
+          ∙ (λ i. laidAt (same i) (sums i) (before .total) entry) ∙ sym (lists-are t′ ws before entry);
     }
 
--- another test that finds the same places among the windows leaves the same
+-- another test that finds the same places among the windows, with the same sums, leaves the same
 pub tried-same : (t t′ : Sought) (ws : List ℕ) {before r : Search} {entry final : Lent} → those (t .place) ws ≡ those (t′ .place) ws
-    → TriedAll t ws before entry r final → TriedAll t′ ws before entry r final
-tried-same t t′ ws {before} {r} same a =
-    filtered t t′ ws ws (r .tried) same (ap (λ (u : Search). u .tried) (a .counts ∙ counts-are t ws before)) a
+    → sumsIn t ws ≡ sumsIn t′ ws → TriedAll t ws before entry r final → TriedAll t′ ws before entry r final
+tried-same t t′ ws {before} {r} same sums a =
+    filtered t t′ ws ws (r .tried) same sums (ap (λ (u : Search). u .tried) (a .counts ∙ counts-are t ws before)) a
 
 -- windows with no place among them are counted, all at once
 pub none-tried : (t : Sought) (ws : List ℕ) (k : ℕ) {before r : Search} {entry : Lent} → those (t .place) ws ≡ [] → length ws ≡ k → r ≡ missed k before
     → TriedAll t ws before entry r entry
 unfolding those
 none-tried t ws k {before} {entry = entry} none e f =
-    rw f (filtered t t [] ws (before .tried + k) (sym none) (ap (λ (n : ℕ). before .tried + n) (sym e)) (tried-none t before entry))
+    rw f
+    (filtered t t [] ws (before .tried + k) (sym none) (ap (map (t .sum)) (sym none)) (ap (λ (n : ℕ). before .tried + n) (sym e))
+    (tried-none t before entry))

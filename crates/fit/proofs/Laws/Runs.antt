@@ -1,7 +1,8 @@
 -- Laws of windows that follow each other without a gap: `run s k` are the k windows from s on. Assumes nothing.
 use mathlib.Core.Path.{_≡_, refl, sym, ap, _∙_}
 use mathlib.Core.Bool.{Bool, true, false}
-use mathlib.Core.List.{List, [], _∷_, _++_, append-nil}
+use mathlib.Core.Logic.{⊎-elim}
+use mathlib.Core.List.{List, [], _∷_, _++_, map, append-nil, List·Memᴰ, List·Memᴰ·not-nil, List·Memᴰ·cases-cons}
 use Prim.Native.Nat.{ℕ, zero, suc, _+_, _-_, _≤_, _<_}
 use native.Mathlib.Omega.{arith}
 use lib.ListN.{length}
@@ -10,6 +11,8 @@ use Rattle.fit.specs.Walk.{walkBy, everyWindow}
 use Rattle.fit.specs.Answer.{Sought, Lent, begun, Answer, Tried}
 use Rattle.fit.specs.Trying.{TriedAll, missed, run}
 use Rattle.fit.specs.declared.answer.Search.{Search}
+use Rattle.fit.proofs.Laws.Sums.{sums-same}
+use Rattle.fit.proofs.Laws.Risings.{in-those}
 use Rattle.fit.proofs.Laws.Steps.{every-start, every-step, every-end, every-rises, every-has, every-count}
 use Rattle.fit.proofs.Laws.Alongs.{along-start, along-same, along-end}
 use Rattle.fit.proofs.Laws.Tryings.{tried-none, tried-first, along-all, Trying, trying-start, trying-pass, trying-all, trying-end}
@@ -90,9 +93,25 @@ those-same p q s (suc k) h =
     let first : p s ≡ q s = rw here at (h 0 (omega arith)) in
     rw (first, those-same p q (s + 1) k (λ j l. let next : s + suc j ≡ s + 1 + j = omega arith in rw next at (h (suc j) (omega arith))))
 
+in-run : (s k : ℕ) {a : ℕ} → List·Memᴰ a (run s k) → (j : ℕ) × (j < k) × (a ≡ s + j)
+unfolding run
+in-run s zero m = absurd (List·Memᴰ·not-nil m)
+in-run s (suc k) m =
+    ⊎-elim (λ e. (0, omega arith, omega (arith, e)))
+    (λ n. let at = in-run (s + 1) k n in (suc (at .0), omega (arith, at .1), omega (arith, at .2)))
+    (List·Memᴰ·cases-cons m)
+
 pub run-same : (t t′ : Sought) (s k : ℕ) {before r : Search} {entry final : Lent} → ((j : ℕ) → j < k → t .place (s + j) ≡ t′ .place (s + j))
+    → ((j : ℕ) → j < k → t .place (s + j) ≡ true → t .sum (s + j) ≡ t′ .sum (s + j))
     → TriedAll t (run s k) before entry r final → TriedAll t′ (run s k) before entry r final
-run-same t t′ s k h = tried-same t t′ (run s k) (those-same (t .place) (t′ .place) s k h)
+run-same t t′ s k places sums =
+    let same = those-same (t .place) (t′ .place) s k places in
+    tried-same t t′ (run s k) same
+    (sums-same (t .sum) (t′ .sum) (those (t .place) (run s k))
+    (λ a m. let found = in-those (t .place) (run s k) m in
+    let at = in-run s k (found .0) in
+    rw (at .2) (sums (at .0) (at .1) (sym (ap (t .place) (at .2)) ∙ found .1)))
+    ∙ ap (map (t′ .sum)) same)
 
 -- windows with no place among them are counted, all at once
 those-none : (ws : List ℕ) → those (λ s. false) ws ≡ []

@@ -7,7 +7,7 @@ use native.Mathlib.Omega.{arith}
 use lib.ListN.{length}
 use Rattle.fit.specs.Answer.{Sought, Lent, lent, Tried}
 use Rattle.fit.specs.declared.answer.Search.{Search}
-use Rattle.fit.proofs.Laws.Answers.{tried-one, order-one}
+use Rattle.fit.proofs.Laws.Answers.{tried-one, order-one, both-lists}
 use Rattle.fit.proofs.Laws.Alongs.{Along, along-tried, along-on, listed-long}
 use Rattle.fit.specs.Trying.{countsAfter, listsAfter, TriedAll}
 
@@ -22,10 +22,11 @@ unfolding countsAfter listsAfter
 tried-first t s ws a b = record { counts = rw (← a .counts) (b .counts); lists = rw (← a .counts, ← a .lists) (b .lists) }
 
 -- no second result of several windows
-pub no-second-tried : (t : Sought) (ws : List ℕ) (before : Search) (entry : Lent) (r r′ : Search) (l l′ : List ℕ)
-    → TriedAll t ws before entry r (lent l) → TriedAll t ws before entry r′ (lent l′) → (r ≡ r′) × (l ≡ l′)
-no-second-tried t ws before entry r r′ l l′ a b =
-    (a .counts ∙ sym (b .counts), ap (λ (v : Lent). v .list) (a .lists ∙ sym (b .lists)))
+pub no-second-tried : (t : Sought) (ws : List ℕ) (before : Search) (entry : Lent) (r r′ : Search) (l l′ v v′ : List ℕ)
+    → TriedAll t ws before entry r (lent l v) → TriedAll t ws before entry r′ (lent l′ v′) → (r ≡ r′) × (l ≡ l′) × (v ≡ v′)
+no-second-tried t ws before entry r r′ l l′ v v′ a b =
+    let lists = both-lists (a .lists ∙ sym (b .lists)) in
+    (a .counts ∙ sym (b .counts), lists .0, lists .1)
 
 -- a walk whose next windows are these
 pub along-all : (t : Sought) (ws : List ℕ) (bound : ℕ) {walk rest : List ℕ} {entry held held′ : Lent} {before r : Search}
@@ -42,19 +43,21 @@ pub record Trying (t : Sought) (whole left : List ℕ) (bound : ℕ) (entry held
   pub order : found .total ≤ found .tried
   pub room : found .tried ≤ bound
   pub long : length (held .list) ≡ length (entry .list)
+  pub sums-long : length (held .sums) ≡ length (entry .sums)
   pub rest : (r : Search) (final : Lent) → TriedAll t left found held r final → TriedAll t whole before entry r final
 
 pub trying-start : (t : Sought) (whole : List ℕ) (bound : ℕ) (entry : Lent) (before : Search) → before .total ≤ before .tried → before .tried ≤ bound
     → Trying t whole whole bound entry entry before before
-trying-start t whole bound entry before o h = record { order = o; room = h; long = refl; rest = λ r final a. a }
+trying-start t whole bound entry before o h = record { order = o; room = h; long = refl; sums-long = refl; rest = λ r final a. a }
 
 pub trying-next : (t : Sought) (s bound bound′ : ℕ) {whole left left′ : List ℕ} {entry held held′ : Lent} {before found found′ : Search}
     → Trying t whole left bound entry held before found → left ≡ s ∷ left′ → Tried t s found held found′ held′ → bound < bound′
     → Trying t whole left′ bound′ entry held′ before found′
 trying-next t s bound bound′ {left′ = left′} {held = held} {found = found} f e a h = record {
-  order = rw (a .counts) (order-one (t .place s) found (f .order));
-  room = omega (arith, tried-one (t .place s) found, ap (λ (r : Search). r .tried) (a .counts), f .room);
-  long = ap (λ (l : Lent). length (l .list)) (a .lists) ∙ listed-long (t .place s) s (found .total) held ∙ f .long;
+  order = rw (a .counts) (order-one (t .place s) (t .sum s) found (f .order));
+  room = omega (arith, tried-one (t .place s) (t .sum s) found, ap (λ (r : Search). r .tried) (a .counts), f .room);
+  long = ap (λ (l : Lent). length (l .list)) (a .lists) ∙ listed-long (t .place s) (t .sum s) s (found .total) held .0 ∙ f .long;
+  sums-long = ap (λ (l : Lent). length (l .sums)) (a .lists) ∙ listed-long (t .place s) (t .sum s) s (found .total) held .1 ∙ f .sums-long;
   rest = λ r final b. f .rest r final (rw e (tried-first t s left′ a b));
 }
 
@@ -64,6 +67,7 @@ trying-pass t bound bound′ f e h = record {
   order = f .order;
   room = omega (arith, f .room);
   long = f .long;
+  sums-long = f .sums-long;
   rest = λ r final b. f .rest r final (rw e b);
 }
 

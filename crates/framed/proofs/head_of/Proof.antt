@@ -19,8 +19,8 @@ four-at-requires-3 c κs = search needs
 two-at-requires-2 : tie.Need-two-at-requires-2
 two-at-requires-2 c κs = search needs
 
-cast-t7 : tie.Need-cast-t7
-cast-t7 c = search needs
+two-at-requires-3 : tie.Need-two-at-requires-3
+two-at-requires-3 c κs = search needs
 
 cast-t8 : tie.Need-cast-t8
 cast-t8 c = search needs
@@ -28,15 +28,22 @@ cast-t8 c = search needs
 cast-t9 : tie.Need-cast-t9
 cast-t9 c = search needs
 
+cast-t10 : tie.Need-cast-t10
+cast-t10 c = search needs
+
+cast-t11 : tie.Need-cast-t11
+cast-t11 c = search needs
+
 returns : tie.Need-returns
 unfolding headOf
 returns c = λ i.
     record {
-      delta = (c .before .before .before .before .four-at .ensures) i;
-      gamma = (c .before .before .before .four-at2 .ensures) i;
-      m = (c .before .before .two-at .ensures .0) i;
-      n = (c .before .four-at3 .ensures) i;
-      room = (c .two-at2 .ensures .0) i;
+      delta = (c .before .before .before .before .before .four-at .ensures) i;
+      gamma = (c .before .before .before .before .four-at2 .ensures) i;
+      m = (c .before .before .before .two-at .ensures .0) i;
+      n = (c .before .before .four-at3 .ensures) i;
+      room = (c .before .two-at2 .ensures .0) i;
+      sums = (c .two-at3 .ensures .0) i;
     }
 
 pub head-of-spec : {M : Type 1} → statement M
@@ -48,7 +55,9 @@ head-of-spec =
     two-at-requires
     four-at-requires-3
     two-at-requires-2
-    cast-t7
+    two-at-requires-3
     cast-t8
     cast-t9
+    cast-t10
+    cast-t11
     returns)

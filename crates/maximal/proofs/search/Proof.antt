@@ -18,17 +18,17 @@ use Rattle.maximal.proofs.search.Statement.{statement}
 use Rattle.maximal.proofs.search.Tie as tie
 
 abbrev Inv-loop : tie.InvT-loop
-Inv-loop points delta gamma recording list₀ found₀ m d spans next order jumps full count s₀ list found s =
+Inv-loop points delta gamma recording list₀ sums₀ found₀ m d spans next order jumps full count s₀ list sums found s =
     Prepared delta gamma points recording d spans next order jumps full count
-    × Along (soughtBy (ruleIn spans) (length points) gamma recording) (maximalWalk d points recording) (left d points recording s) s (lent list₀) (lent list) found
+    × Along (soughtBy (ruleIn spans) (length points) gamma recording) (maximalWalk d points recording) (left d points recording s) s (lent list₀ sums₀) (lent list sums) found
 
 abbrev μ-loop : tie.MeasureT-loop
-μ-loop points delta gamma recording list₀ found₀ m d spans next order jumps full count s₀ list found s = count - s
+μ-loop points delta gamma recording list₀ sums₀ found₀ m d spans next order jumps full count s₀ list sums found s = count - s
 
 -- what is known past the refusals
 abbrev Started : tie.Else1 Inv-loop μ-loop → Type 0
 Started c =
-    let a = c .before .before .before .before .before .before .before .args in
+    let a = c .before .before .before .before .before .before .before .before .args in
     Underway (a .delta) (a .gamma) (a .points .now) (a .recording .now) (c .before .before .before .checked-search .result) (c .before .before .begin .result)
 
 started : (c : tie.Else1 Inv-loop μ-loop) → Started c
@@ -86,7 +86,7 @@ loop-holds c =
     let small = made .before in
     let past = small .before .before in
     let at = started past in
-    let readings = past .before .before .before .before .before in (
+    let readings = past .before .before .before .before .before .before in (
       record {
         ok = at .ok;
         readings = λ i. omega (arith, readings .shared-slice-known2 .given i);
@@ -132,7 +132,7 @@ slice-aggregate-try-compared c =
 
 try-compared-requires : tie.Need-try-compared-requires Inv-loop μ-loop
 try-compared-requires c κs =
-    let compared = c .before .before .before .before .before .before .before in
+    let compared = c .before .before .before .before .before .before .before .before in
     let at-test = compared .before .before in
     let known = at-test .before .loop .inv .0 in
     let inside = window-inside known _ (at-test .loop-test .taken) in
@@ -143,7 +143,7 @@ try-compared-requires c κs =
 
 add-s : tie.Need-add-s Inv-loop μ-loop
 add-s c =
-    let larger = c .before .before .before .before .before in
+    let larger = c .before .before .before .before .before .before .before .before in
     let jumped = larger .before .before in
     let compared = jumped .before .before .before in
     let at-test = compared .before .before in
@@ -153,7 +153,7 @@ add-s c =
 
 loop-less : tie.Need-loop-less Inv-loop μ-loop
 loop-less c =
-    let larger = c .before .before .before .before .before in
+    let larger = c .before .before .before .before .before .before .before .before in
     let jumped = larger .before .before in
     let compared = jumped .before .before .before in
     let at-test = compared .before .before in
@@ -163,8 +163,8 @@ loop-less c =
 
 loop-again : tie.Need-loop-again Inv-loop μ-loop
 loop-again c =
-    let tried = c .before .before in
-    let larger = tried .before .before .before in
+    let tried = c .before .before .before .before in
+    let larger = tried .before .before .before .before in
     let jumped = larger .before .before in
     let compared = jumped .before .before .before in
     let at-test = compared .before .before in
@@ -176,6 +176,9 @@ loop-again c =
 
 same-length : tie.Need-same-length Inv-loop μ-loop
 same-length c = search needs
+
+same-length-2 : tie.Need-same-length-2 Inv-loop μ-loop
+same-length-2 c = search needs
 
 returns-2 : tie.Need-returns-2 Inv-loop μ-loop
 returns-2 c = walked (c .before .loop .inv .0) _ (omega arith) (c .before .loop .inv .1)
@@ -209,4 +212,5 @@ search-spec =
     loop-less
     loop-again
     same-length
+    same-length-2
     returns-2)

@@ -17,6 +17,7 @@ use Rattle.fit.proofs.Laws.Bools.{same-test}
 use Rattle.fit.proofs.Laws.Rules.{fit-all, sum-term, sum-same, by-is, by-inside, by-within}
 use Rattle.fit.proofs.Laws.Places.{place-of, place-fits, place-test, test-place, place-down, place-up}
 use Rattle.fit.proofs.Laws.Refusals.{none-exactly}
+use Rattle.fit.proofs.Laws.Answers.{SameSought, answer-same}
 use Rattle.counters.specs.Width.{lowBits, widthOf}
 use Rattle.counters.specs.Word.{wordBits}
 use Rattle.counters.specs.Words.{perWord, Needed, wordsFor}
@@ -60,6 +61,10 @@ module _ (delta gamma : ℕ) (x y : List ℕ) (cost : ℕ → ℕ → ℕ) (s : 
         let p : Place d g x y s = place-down delta gamma x y s (test-place delta gamma x y s e) in
         by-is (summing cost) (length x) g y s (p .inside) (fit-all (λ i a. true) y s (length x) (λ i h. refl))
         (omega (arith, same, near-sum (place-fits d g x y s p), p .within))
+
+    -- and of a place it is the sum of the differences
+    pub summed-sum : isPlaceBy (summing cost) (length x) g y s ≡ true → sumCost cost y s (length x) ≡ sumDiff x y s
+    summed-sum e = same ∙ near-sum (sum-near (omega (arith, same, by-within (summing cost) (length x) g y s e)))
 
     pub sums-tell : isPlaceBy (summing cost) (length x) g y s ≡ isPlace delta gamma x y s
     sums-tell = same-test _ _ summed-place place-summed
@@ -141,6 +146,7 @@ module _ (delta gamma : ℕ) (x y : List ℕ) (d g b : ℕ) (o : Open delta gamm
           addable = tabled-addable (k .b) (k .g) (k .per) used (length x) (addedOf d g x) t (laid .sound .some) by-masks
               (λ i a. rw (laid .g-is) (added-le d g (getD x i 0) a d-le-g));
           short = o .ok .short;
+          g-small = omega (arith, laid .g-is, g-small);
         }
 
         module _ (bytes : (j : ℕ) → getD y j 0 < 256) where
@@ -153,9 +159,13 @@ module _ (delta gamma : ℕ) (x y : List ℕ) (d g b : ℕ) (o : Open delta gamm
           same-test-at s =
               rw (laid .g-is, o .g-is) (sums-tell delta gamma x y (costIn (suc (k .b)) (k .per) used t) s (rw (o .d-is, o .g-is) at (table-sum s)))
 
-          same-sought : soughtIn k (length x) used t y ≡ soughtOf delta gamma x y
-          same-sought = λ i. record { count = windows (length x) (length y); place = λ s. same-test-at s i }
+          same-sum-at : (s : ℕ) → soughtIn k (length x) used t y .place s ≡ true → soughtIn k (length x) used t y .sum s ≡ sumDiff x y s
+          same-sum-at s e =
+              summed-sum delta gamma x y (costIn (suc (k .b)) (k .per) used t) s (rw (o .d-is, o .g-is) at (table-sum s)) (rw (laid .g-is, o .g-is) at e)
+
+          same-sought : SameSought (soughtIn k (length x) used t y) (soughtOf delta gamma x y)
+          same-sought = record { same-count = refl; same-place = same-test-at; same-sum = same-sum-at }
 
           pub answered : {entry final : Lent} {r : Search} → Answer 0 (soughtIn k (length x) used t y) (windows (length x) (length y)) entry r final
               → Answers delta gamma x y (windows (length x) (length y)) entry r final
-          answered a = rw (none-exactly delta gamma x y .1 (o .ok)) (rw same-sought at a)
+          answered {entry} a = rw (none-exactly delta gamma x y .1 (o .ok)) (answer-same _ _ same-sought 0 _ entry a)

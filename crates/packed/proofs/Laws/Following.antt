@@ -8,6 +8,7 @@ use native.Mathlib.Nat.{add-suc, sub-zero, mod-lt, mul-le-mul-left}
 use native.Mathlib.Numerals.{add-one}
 use native.Mathlib.Omega.{arith}
 use lib.Arith.{digits-lt}
+use lib.Pow.{pow-pos}
 use lib.ListN.{length, getD, take, replicate, getD-replicate}
 use lib.Seq.{take-at}
 use lib.Bits.{bitAnd}
@@ -88,17 +89,28 @@ module _ (k : Masks) (ok : Sound k) where
   pub enter-lt : k .enter < 2 ^ suc (k .b)
   enter-lt = omega (arith, ok .start)
 
-  -- the code's number with the top bit of the last point's counter alone
-  pub last-inside : (m : ℕ) → ((m - 1) % k .per < k .per) × ((k .b + 1) * ((m - 1) % k .per) + k .b < wordBits) × (k .per ≤ wordBits)
-  last-inside m =
-      let at : (m - 1) % k .per < k .per = mod-lt (m - 1) (ok .some) in
-      let below : suc (k .b) * suc ((m - 1) % k .per) ≤ suc (k .b) * k .per = mul-le-mul-left (suc (k .b)) at in
-      (at, omega (arith, below, ok .fit), omega (arith, ok .fit))
+  -- the last point's counter is one of its word's
+  pub last-inside : (m : ℕ) → ((m - 1) % k .per < k .per) × (k .per ≤ wordBits)
+  last-inside m = (mod-lt (m - 1) (ok .some), omega (arith, ok .fit))
 
-  pub last-shifted : (m : ℕ) → (1 * 2 ^ ((k .b + 1) * ((m - 1) % k .per) + k .b)) % 2 ^ 64 ≡ 2 ^ (suc (k .b) * ((m - 1) % k .per) + k .b)
-  last-shifted m =
-      one-shifted ((k .b + 1) * ((m - 1) % k .per) + k .b) (omega (arith, last-inside m))
-      ∙ ap (λ (l : ℕ). 2 ^ (l * ((m - 1) % k .per) + k .b)) (add-one (k .b))
+  -- where a counter begins, and its top bit alone
+  module _ (at : ℕ) (h : at < k .per) where
+    pub counter-inside : (k .b + 1) * at + k .b < wordBits
+    counter-inside = let below : suc (k .b) * suc at ≤ suc (k .b) * k .per = mul-le-mul-left (suc (k .b)) h in omega (arith, below, ok .fit)
+
+    pub top-shifted : (1 * 2 ^ ((k .b + 1) * at + k .b)) % 2 ^ 64 ≡ 2 ^ (suc (k .b) * at + k .b)
+    top-shifted = one-shifted ((k .b + 1) * at + k .b) (omega (arith, counter-inside)) ∙ ap (λ (l : ℕ). 2 ^ (l * at + k .b)) (add-one (k .b))
+
+  -- the machine's `1 << width`, by which the counters above are taken off, and what is left
+  width-shifted : (1 * 2 ^ (k .b + 1)) % 2 ^ 64 ≡ 2 ^ suc (k .b)
+  width-shifted = one-shifted (k .b + 1) (omega (arith, ok .narrow)) ∙ ap (λ (l : ℕ). 2 ^ l) (add-one (k .b))
+
+  pub width-some : 0 < (1 * 2 ^ (k .b + 1)) % 2 ^ 64
+  width-some = rw width-shifted (pow-pos (suc (k .b)))
+
+  pub value-is : (word at : ℕ) → word / 2 ^ ((k .b + 1) * at) % ((1 * 2 ^ (k .b + 1)) % 2 ^ 64) ≡ counter (suc (k .b)) word at
+  unfolding counter
+  value-is word at = rw (width-shifted, add-one (k .b))
 
 module _ (k : Masks) (ok : Sound k) (used : ℕ) (t y : List ℕ) where
   abbrev cost : ℕ → ℕ → ℕ
@@ -142,6 +154,12 @@ module _ (k : Masks) (ok : Sound k) (used : ℕ) (t y : List ℕ) where
         (λ e. by-is (summing cost) m (k .g) y s inside (fit-all (λ i a. true) y s m (λ i h. refl))
         (omega (arith, last-sum, told .0 (eqb-true _ _ e))))
         (λ e. eq-eqb _ _ (told .1 (omega (arith, last-sum, by-within (summing cost) m (k .g) y s e))))
+
+    -- and where it is one, that counter is the sum and what it started at
+    pub last-told : soughtIn k m used t y .place s ≡ true → counter (suc (k .b)) (getD words (used - 1) 0) ((m - 1) % k .per) ≡ soughtIn k m used t y .sum s + k .enter
+    last-told e =
+        let within = by-within (summing cost) m (k .g) y s e in
+        omega (arith, last-sum, last-stands .low (omega (arith, last-sum, within)), ok .start)
 
 -- ---- a search in `used` words, where n are used and stand in an array of their own: what the lead asks, what the windows ask, and what they answer
 module _ (k : Masks) (m used n : ℕ) (t y : List ℕ) (e : used ≡ n) (given : Scannable k m used t y) where

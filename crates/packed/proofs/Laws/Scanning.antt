@@ -1,6 +1,6 @@
 -- The scan as it goes along: the words follow the separate sums, and the windows that have ended were tried. Assumes nothing.
-use mathlib.Core.Path.{_≡_, _∙_}
-use mathlib.Core.Bool.{true}
+use mathlib.Core.Path.{_≡_, sym, _∙_}
+use mathlib.Core.Bool.{Bool, true, cond}
 use mathlib.Core.List.{List}
 use Prim.Native.Nat.{ℕ, suc, _+_, _-_, _*_, _%_, _^_, _≤_, _<_}
 use native.Mathlib.Omega.{arith}
@@ -11,60 +11,94 @@ use Rattle.fit.specs.Place.{windows}
 use Rattle.fit.specs.Walk.{walkBy, everyWindow}
 use Rattle.fit.specs.Answer.{Lent, begun, Answer, Noted}
 use Rattle.fit.specs.declared.answer.Search.{Search}
-use Rattle.fit.proofs.Laws.Rules.{by-below}
+use Rattle.fit.proofs.Laws.Rules.{by-within, by-below}
 use Rattle.fit.proofs.Laws.Steps.{every-start, every-step, every-end, every-rises, every-has, every-count}
 use Rattle.fit.proofs.Laws.Answers.{noted-as}
 use Rattle.fit.proofs.Laws.Alongs.{Along, along-start, along-tried, along-same, along-end}
+use Rattle.counters.specs.Word.{counter}
 use Rattle.counters.specs.Words.{TurnedAcross}
 use Rattle.counters.specs.declared.Masks.{Masks}
 use Rattle.adding.specs.Tables.{rowOf, costIn}
-use Rattle.packed.specs.Following.{Scannable, Follows, summing, soughtIn}
-use Rattle.packed.proofs.Laws.Following.{follows-more, judged}
+use Rattle.packed.specs.Following.{Scannable, Follows, Short, summing, soughtIn}
+use Rattle.packed.proofs.Laws.Following.{follows-more, last-told, judged}
 
--- the windows below s were tried, and the words are at the reading before the next window's last
-pub record Scanned (k : Masks) (m used : ℕ) (t y : List ℕ) (count lead : ℕ) (entry held : Lent) (words : List ℕ) (s : ℕ) (found : Search) : Type 0 where
+-- the windows below s were tried, and the words are at the reading before the next window's last; `at` and `bit` tell the last point's counter
+pub record Scanned (k : Masks) (m used : ℕ) (t y : List ℕ) (count lead at bit : ℕ) (entry held : Lent) (words : List ℕ) (s : ℕ) (found : Search) : Type 0 where
   pub given : Scannable k m used t y
   pub counted : count ≡ windows m (length y)
   pub leads : lead ≡ length y - count
+  pub last-is : at ≡ (m - 1) % k .per
+  pub bit-is : bit ≡ 2 ^ (suc (k .b) * at + k .b)
   pub within : s ≤ count
   pub follows : Follows k used t y words (lead + s)
   pub along : Along (soughtIn k m used t y) (everyWindow count) (walkBy (λ s. true) (λ s. s + 1) count (count - s) s) s entry held found
 
-module _ (k : Masks) (m used : ℕ) (t y : List ℕ) (count lead : ℕ) where
+module _ (k : Masks) (m used : ℕ) (t y : List ℕ) (count lead at bit : ℕ) where
   pub scanned-start : (entry : Lent) (words : List ℕ) (found : Search) → Scannable k m used t y → count ≡ length y - lead → lead ≡ length y - windows m (length y)
-      → found ≡ begun 0 → Follows k used t y words lead → Scanned k m used t y count lead entry entry words 0 found
-  scanned-start entry words found given counts leads e f =
+      → at ≡ (m - 1) % k .per → bit ≡ 2 ^ (suc (k .b) * at + k .b)
+      → found ≡ begun 0 → Follows k used t y words lead → Scanned k m used t y count lead at bit entry entry words 0 found
+  scanned-start entry words found given counts leads last bits e f =
       let all : count ≡ windows m (length y) = omega (arith, given .some) in
-      let at : lead ≡ lead + 0 = omega arith in
+      let here : lead ≡ lead + 0 = omega arith in
       record {
         given = given;
         counted = all;
         leads = rw all leads;
+        last-is = last;
+        bit-is = bits;
         within = omega arith;
-        follows = rw at at f;
+        follows = rw here at f;
         along = along-same (every-start count) (along-start (soughtIn k m used t y) (everyWindow count) 0 entry e);
       }
 
-  pub scanned-more : {entry held held′ : Lent} {words words′ : List ℕ} {s : ℕ} {found found′ : Search} → Scanned k m used t y count lead entry held words s found → s < count
-      → TurnedAcross (k .b) (k .g) (k .per) words (k .enter) (rowOf used t (getD y (lead + s) 0)) words′
-      → Noted (eqb (bitAnd (getD words′ (used - 1) 0) (2 ^ (suc (k .b) * ((m - 1) % k .per) + k .b))) 0) s found held found′ held′
-      → Scanned k m used t y count lead entry held′ words′ (s + 1) found′
-  scanned-more {held = held} {words = words} {words′ = words′} {s = s} {found = found} h l turn note =
-      let next : Follows k used t y words′ (lead + s + 1) = follows-more k (h .given .sound) used t y words (lead + s) words′ (h .follows) turn in
-      let at : lead + s + 1 ≡ s + m = omega (arith, h .counted, h .leads, h .given .some) in
-      let on : lead + s + 1 ≡ lead + (s + 1) = omega arith in
-      let told = judged k (h .given .sound) used t y m s (h .given .some) (h .given .needed) (omega (arith, h .counted)) words′ (rw at at next) in
-      record {
-        given = h .given;
-        counted = h .counted;
-        leads = h .leads;
-        within = omega arith;
-        follows = rw on at next;
-        along =
-            along-tried (soughtIn k m used t y) s s (s + 1) (along-same (every-step count s l) (h .along)) (noted-as _ _ s found held told note) (omega arith);
-      }
+  -- the next reading was read
+  module _ {entry held : Lent} {words words′ : List ℕ} {s : ℕ} {found : Search} (h : Scanned k m used t y count lead at bit entry held words s found) (l : s < count)
+      (turn : TurnedAcross (k .b) (k .g) (k .per) words (k .enter) (rowOf used t (getD y (lead + s) 0)) words′) where
+    -- whether the top bit of the last point's counter is clear, and that counter
+    abbrev clear : Bool
+    clear = eqb (bitAnd (getD words′ (used - 1) 0) bit) 0
 
-  pub scanned-end : {entry held : Lent} {words : List ℕ} {s : ℕ} {found : Search} → Scanned k m used t y count lead entry held words s found → count ≤ s
+    abbrev last : ℕ
+    last = counter (suc (k .b)) (getD words′ (used - 1) 0) at
+
+    next : Follows k used t y words′ (lead + s + 1)
+    next = follows-more k (h .given .sound) used t y words (lead + s) words′ (h .follows) turn
+
+    window-ends : Follows k used t y words′ (s + m)
+    window-ends = let e : lead + s + 1 ≡ s + m = omega (arith, h .counted, h .leads, h .given .some) in rw e at next
+
+    told : clear ≡ soughtIn k m used t y .place s
+    told = rw (h .bit-is, h .last-is) (judged k (h .given .sound) used t y m s (h .given .some) (h .given .needed) (omega (arith, h .counted)) words′ window-ends)
+
+    sum-told : soughtIn k m used t y .place s ≡ true → last ≡ soughtIn k m used t y .sum s + k .enter
+    sum-told = rw (h .last-is) (last-told k (h .given .sound) used t y m s (h .given .some) (h .given .needed) (omega (arith, h .counted)) words′ window-ends)
+
+    -- the counter of a place is short
+    pub scanned-short : clear ≡ true → Short (k .enter) last
+    scanned-short e =
+        let place = sym told ∙ e in
+        let within = by-within (summing (costIn (suc (k .b)) (k .per) used t)) m (k .g) y s place in
+        record { grown = omega (arith, sum-told place); short = omega (arith, sum-told place, within, h .given .g-small) }
+
+    -- and where the window is noted by that bit and that counter, it was tried
+    pub scanned-more : {sum : ℕ} {held′ : Lent} {found′ : Search} → sum ≡ cond clear (last - k .enter) 0 → Noted clear sum s found held found′ held′
+        → Scanned k m used t y count lead at bit entry held′ words′ (s + 1) found′
+    scanned-more e note =
+        let on : lead + s + 1 ≡ lead + (s + 1) = omega arith in
+        record {
+          given = h .given;
+          counted = h .counted;
+          leads = h .leads;
+          last-is = h .last-is;
+          bit-is = h .bit-is;
+          within = omega arith;
+          follows = rw on at next;
+          along =
+              along-tried (soughtIn k m used t y) s s (s + 1) (along-same (every-step count s l) (h .along))
+              (noted-as _ _ _ _ s found held told (λ p. let c : clear ≡ true = told ∙ p in rw c at e ∙ omega (arith, sum-told p)) note) (omega arith);
+        }
+
+  pub scanned-end : {entry held : Lent} {words : List ℕ} {s : ℕ} {found : Search} → Scanned k m used t y count lead at bit entry held words s found → count ≤ s
       → Answer 0 (soughtIn k m used t y) (windows m (length y)) entry found held
   scanned-end {s = s} h l =
       let below : (i : ℕ) → soughtIn k m used t y .place i ≡ true → i < count =

@@ -12,7 +12,7 @@ use Rattle.packed.proofs.search.Tie as tie
 -- what is known past the refusals
 abbrev Started : tie.Else1 → Type 0
 Started c =
-    let a = c .before .before .before .before .before .before .before .args in
+    let a = c .before .before .before .before .before .before .before .before .args in
     Underway (a .delta) (a .gamma) (a .points .now) (a .recording .now) (c .before .before .before .checked-search .result) (c .before .before .begin .result)
 
 started : (c : tie.Else1) → Started c
@@ -21,7 +21,7 @@ started c = underway _ _ _ _ (c .before .before .before .checked-search .ensures
 -- once d, g and b are there
 abbrev Opened : tie.After-low-bits → Type 0
 Opened c =
-    let a = c .before .before .before .before .before .before .before .before .before .before .before .args in
+    let a = c .before .before .before .before .before .before .before .before .before .before .before .before .args in
     Open (a .delta) (a .gamma) (a .points .now) (a .recording .now) (c .before .before .d .result) (c .before .g .result) (c .low-bits .result)
 
 open-at : (c : tie.After-low-bits) → Opened c
@@ -69,7 +69,7 @@ sub-used : tie.Need-sub-used
 sub-used c = omega arith
 
 add-used : tie.Need-add-used
-add-used c = omega arith
+add-used c = omega (arith, open-at (c .before .before) .ok .asked .few)
 
 div-used : tie.Need-div-used
 div-used c = omega arith
@@ -91,7 +91,7 @@ slice-aggregate-scan c = search needs
 
 scan-requires : tie.Need-scan-requires
 scan-requires c κs =
-    let added = c .before .before .before in
+    let added = c .before .before .before .before in
     let built = added .before .before .before in
     let known = open-at (built .before) in (
       may-scan _ _ _ _ _ _ _ known _ (built .lay-out .ensures) _ refl _ (added .additions .ensures .tabled),
@@ -102,12 +102,15 @@ scan-requires c κs =
 same-length : tie.Need-same-length
 same-length c = search needs
 
+same-length-2 : tie.Need-same-length-2
+same-length-2 c = search needs
+
 returns-2 : tie.Need-returns-2
 returns-2 c =
-    let done = c .before .before in
-    let added = done .before .before .before .before in
+    let done = c .before .before .before .before in
+    let added = done .before .before .before .before .before in
     let built = added .before .before .before in
-    let readings = built .before .before .before .before .before .before .before .before .before .before in
+    let readings = built .before .before .before .before .before .before .before .before .before .before .before in
     answered _ _ _ _ _ _ _ (open-at (built .before)) _ (built .lay-out .ensures) _ refl _ (added .additions .ensures .tabled)
     (λ j. readings .shared-slice-known2 .given j .fits) (done .scan .ensures)
 
@@ -137,4 +140,5 @@ search-spec =
     slice-aggregate-scan
     scan-requires
     same-length
+    same-length-2
     returns-2)

@@ -15,20 +15,20 @@ use Rattle.plain.proofs.over_spans.Statement.{statement}
 use Rattle.plain.proofs.over_spans.Tie as tie
 
 abbrev Inv-loop : tie.InvT-loop
-Inv-loop spans m gamma recording list₀ count found₀ s₀ list found s =
+Inv-loop spans m gamma recording list₀ sums₀ count found₀ s₀ list sums found s =
     Ready spans m gamma (length recording) × (count ≡ windows m (length recording)) × (s ≤ count) × (found₀ ≡ begun 0)
-    × Trying (soughtBy (ruleIn spans) m gamma recording) (run 0 (windows m (length recording))) (run s (windows m (length recording) - s)) s (lent list₀)
-    (lent list) found₀ found
+    × Trying (soughtBy (ruleIn spans) m gamma recording) (run 0 (windows m (length recording))) (run s (windows m (length recording) - s)) s (lent list₀ sums₀)
+    (lent list sums) found₀ found
 
 abbrev μ-loop : tie.MeasureT-loop
-μ-loop spans m gamma recording list₀ count found₀ s₀ list found s = count - s
+μ-loop spans m gamma recording list₀ sums₀ count found₀ s₀ list sums found s = count - s
 
 count-windows-requires : tie.Need-count-windows-requires Inv-loop μ-loop
 count-windows-requires c κs = search needs
 
 loop-holds : tie.Need-loop-holds Inv-loop μ-loop
 loop-holds c =
-    let known = c .before .before .before .before .pre in
+    let known = c .before .before .before .before .before .pre in
     (known .0, c .count-windows .ensures, omega arith, known .1, running-begun _ _ (known .1))
 
 add-loop : tie.Need-add-loop Inv-loop μ-loop
@@ -36,7 +36,7 @@ add-loop c = omega arith
 
 try-block-requires : tie.Need-try-block-requires Inv-loop μ-loop
 try-block-requires c κs =
-    let inv = c .before .before .loop .inv in
+    let inv = c .before .before .before .loop .inv in
     ((inv .0, omega arith), (inv .4 .order, inv .4 .room))
 
 add-s : tie.Need-add-s Inv-loop μ-loop
@@ -47,20 +47,23 @@ loop-less c = omega arith
 
 loop-again : tie.Need-loop-again Inv-loop μ-loop
 loop-again c =
-    let tried = c .before .before in
-    let inv = tried .before .before .before .loop .inv in
+    let tried = c .before .before .before .before in
+    let inv = tried .before .before .before .before .loop .inv in
     (inv .0, inv .1, omega arith, inv .3, running-all _ _ _ (inv .4) _ _ refl (omega arith) (tried .try-block .ensures))
 
 one-by-one-requires : tie.Need-one-by-one-requires Inv-loop μ-loop
-one-by-one-requires c κs = let inv = c .before .before .loop .inv in ((inv .0, omega arith), (inv .4 .order, inv .4 .room))
+one-by-one-requires c κs = let inv = c .before .before .before .loop .inv in ((inv .0, omega arith), (inv .4 .order, inv .4 .room))
 
 same-length : tie.Need-same-length Inv-loop μ-loop
 same-length c = search needs
 
+same-length-2 : tie.Need-same-length-2 Inv-loop μ-loop
+same-length-2 c = search needs
+
 returns : tie.Need-returns Inv-loop μ-loop
 returns c =
-    let done = c .before .before in
-    let inv = done .before .before .before .loop .inv in
+    let done = c .before .before .before .before in
+    let inv = done .before .before .before .before .loop .inv in
     every-tried _ (λ s p. by-below _ _ _ _ s p) (inv .3) (inv .4 .rest _ _ (done .one-by-one .ensures))
 
 pub over-spans-spec : {M : Type 1} → statement M
@@ -78,4 +81,5 @@ over-spans-spec =
     loop-again
     one-by-one-requires
     same-length
+    same-length-2
     returns)

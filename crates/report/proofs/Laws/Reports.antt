@@ -7,7 +7,7 @@ use lib.ListN.{length, take, drop}
 use lib.Seq.{take-all, take-at}
 use Rattle.fit.specs.Listing.{places, overlay}
 use Rattle.fit.specs.Refusal.{searchRefusal}
-use Rattle.fit.specs.Answer.{lent, Answers}
+use Rattle.fit.specs.Answer.{Lent, Answers}
 use Rattle.fit.specs.declared.answer.Search.{Search}
 use Rattle.fit.proofs.Laws.Listings.{overlay-is, length-overlay}
 use Rattle.fit.proofs.Laws.Refusals.{none-exactly}
@@ -32,19 +32,19 @@ overlay-held : (ps entry : List ℕ) → length ps ≤ length entry → take (le
 overlay-held ps entry room = rw (overlay-is ps entry, take-all (length entry) ps room) (take-at ps (drop (length ps) entry) (length ps) refl)
 
 -- plain's answer, with a list as long as the recording
-module _ (delta gamma : ℕ) (x y : List ℕ) (tried : ℕ) (entry final : List ℕ) (r : Search) where
-  pub places-held : Answers delta gamma x y tried (lent entry) r (lent final) → length y ≤ length entry
-      → (r .total ≤ length final) × (take (r .total) final ≡ foundBy (searchRefusal delta gamma x y) (places delta gamma x y))
+module _ (delta gamma : ℕ) (x y : List ℕ) (tried : ℕ) (entry final : Lent) (r : Search) where
+  pub places-held : Answers delta gamma x y tried entry r final → length y ≤ length (entry .list)
+      → (r .total ≤ length (final .list)) × (take (r .total) (final .list) ≡ foundBy (searchRefusal delta gamma x y) (places delta gamma x y))
   unfolding foundBy
   places-held a room = by-number (searchRefusal delta gamma x y) refl
     where
-      by-number : (num : ℕ) → searchRefusal delta gamma x y ≡ num → (r .total ≤ length final) × (take (r .total) final ≡ foundBy num (places delta gamma x y))
+      by-number : (num : ℕ) → searchRefusal delta gamma x y ≡ num → (r .total ≤ length (final .list)) × (take (r .total) (final .list) ≡ foundBy num (places delta gamma x y))
       by-number zero e =
           let ok = none-exactly delta gamma x y .0 e in
           let said = answer-accepted delta gamma x y tried entry final r a ok in
           let total : r .total ≡ length (places delta gamma x y) = ap (λ (v : Search). v .total) (said .0) in
-          let fit : length (places delta gamma x y) ≤ length entry = omega (arith, room, places-short delta gamma x y, ok .asked .some) in
-          (rw (total, said .1, length-overlay (places delta gamma x y) entry) fit, rw (total, said .1) (overlay-held (places delta gamma x y) entry fit))
+          let fit : length (places delta gamma x y) ≤ length (entry .list) = omega (arith, room, places-short delta gamma x y, ok .asked .some) in
+          (rw (total, said .1, length-overlay (places delta gamma x y) (entry .list)) fit, rw (total, said .1) (overlay-held (places delta gamma x y) (entry .list) fit))
       by-number (suc num) e =
           let total : r .total ≡ 0 = ap (λ (v : Search). v .total) (answer-refused delta gamma x y tried entry final r a num e .0) in
           (omega (arith, total), rw total)

@@ -1,5 +1,5 @@
--- Laws of scores: the score of a whole window says whether it is a place. Assumes nothing.
-use mathlib.Core.Path.{_≡_, ap, _∙_}
+-- Laws of scores: the score of a whole window says whether it is a place, and of a place the sum. Assumes nothing.
+use mathlib.Core.Path.{_≡_, refl, ap, _∙_}
 use mathlib.Core.Bool.{Bool, true, false, cond, _&&_}
 use mathlib.Core.Logic.{⊎-elim}
 use mathlib.Core.List.{List}
@@ -13,8 +13,8 @@ use Rattle.fit.specs.Verdict.{verdictBy}
 use Rattle.fit.specs.Listing.{Entries}
 use Rattle.fit.specs.Refusal.{maxGamma}
 use Rattle.fit.proofs.Laws.Bools.{either, same-test}
-use Rattle.fit.proofs.Laws.Rules.{sum-none, sum-more}
-use Rattle.fit.proofs.Laws.Verdicts.{told-near, told-broken}
+use Rattle.fit.proofs.Laws.Rules.{sum-none, sum-more, by-within}
+use Rattle.fit.proofs.Laws.Verdicts.{fits-exactly, told-near, told-broken}
 use Rattle.fit.proofs.Laws.Entries.{entries-as}
 use Rattle.sieve.specs.Sieve.{mark}
 use Rattle.score.specs.Score.{mostScore, scoreIn, Scored, scoreAfter}
@@ -57,6 +57,14 @@ pub score-place : (r : Rule) (m gamma : ℕ) (y : List ℕ) (s : ℕ) → s + m 
 unfolding isPlaceBy
 score-place r m gamma y s inside h =
     rw (le-leb (s + m) (length y) inside, ← score-told r m gamma y s) (cut-off (allFit (r .fit) y s m) (sumCost (r .cost) y s m) gamma h)
+
+-- and of a place it is the sum
+pub score-sum : (r : Rule) (m gamma : ℕ) (y : List ℕ) (s : ℕ) → s + m ≤ length y → gamma ≤ maxGamma → isPlaceBy r m gamma y s ≡ true
+    → scoreIn (verdictBy r m gamma y s) ≡ sumCost (r .cost) y s m
+unfolding scoreIn
+score-sum r m gamma y s inside h e =
+    let small = by-within r m gamma y s e in
+    rw (fits-exactly r m gamma y s inside (sumCost (r .cost) y s m) .1 (e, refl)) (omega arith)
 
 -- ---- 64 windows: before their first point, and after their last
 pub scores-begun : (r : Rule) (m : ℕ) (y : List ℕ) (s : ℕ) {marks scores : List ℕ} → Entries (λ j. mark (allFit (r .fit) y (s + j) m)) 64 marks

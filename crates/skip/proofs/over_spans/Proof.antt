@@ -14,24 +14,24 @@ use Rattle.skip.proofs.over_spans.Statement.{statement}
 use Rattle.skip.proofs.over_spans.Tie as tie
 
 abbrev Inv-loop : tie.InvT-loop
-Inv-loop spans m gamma recording list₀ found₀ q₀ list found q =
+Inv-loop spans m gamma recording list₀ sums₀ found₀ q₀ list sums found q =
     Ready spans m gamma (length recording) × (m ≤ q + 1)
     × Along (soughtBy (ruleIn spans) m gamma recording) (skipWalk (ruleIn spans .fit) m recording)
-    (probes (ruleIn spans .fit) m recording (length recording - q) q) (q + 1 - m) (lent list₀) (lent list) found
+    (probes (ruleIn spans .fit) m recording (length recording - q) q) (q + 1 - m) (lent list₀ sums₀) (lent list sums) found
 
 abbrev μ-loop : tie.MeasureT-loop
-μ-loop spans m gamma recording list₀ found₀ q₀ list found q = length recording - q
+μ-loop spans m gamma recording list₀ sums₀ found₀ q₀ list sums found q = length recording - q
 
 sub-q : tie.Need-sub-q Inv-loop μ-loop
 sub-q c = omega arith
 
 loop-holds : tie.Need-loop-holds Inv-loop μ-loop
 loop-holds c =
-    let known = c .before .before .before .pre in
+    let known = c .before .before .before .before .pre in
     (known .0, omega arith, along-same (walk-start _ _ _ (omega arith)) (along-start _ _ _ _ (known .1)))
 
 try-probed-requires : tie.Need-try-probed-requires Inv-loop μ-loop
-try-probed-requires c κs = ((c .before .before .loop .inv .0, omega arith, omega arith), (omega arith, omega arith))
+try-probed-requires c κs = ((c .before .before .before .loop .inv .0, omega arith, omega arith), (omega arith, omega arith))
 
 add-q : tie.Need-add-q Inv-loop μ-loop
 add-q c = omega arith
@@ -41,12 +41,15 @@ loop-less c = omega arith
 
 loop-again : tie.Need-loop-again Inv-loop μ-loop
 loop-again c =
-    let probed = c .before .before in
-    let inv = probed .before .before .before .loop .inv in
+    let probed = c .before .before .before .before in
+    let inv = probed .before .before .before .before .loop .inv in
     (inv .0, omega arith, along-probe _ _ _ _ _ (inv .0 .some) (inv .1) (omega arith) (inv .2) (probed .try-probed .ensures))
 
 same-length : tie.Need-same-length Inv-loop μ-loop
 same-length c = search needs
+
+same-length-2 : tie.Need-same-length-2 Inv-loop μ-loop
+same-length-2 c = search needs
 
 returns : tie.Need-returns Inv-loop μ-loop
 returns c =
@@ -68,4 +71,5 @@ over-spans-spec =
     loop-less
     loop-again
     same-length
+    same-length-2
     returns)

@@ -33,7 +33,7 @@ slice-aggregate-over-spans c = search needs
 
 over-spans-requires : tie.Need-over-spans-requires
 over-spans-requires c κs =
-    let made = c .before .before in
+    let made = c .before .before .before in
     let small = made .before in
     let past = small .before .before in
     let known = underway _ _ _ _ (past .before .before .before .checked-search .ensures) (past .before .before .begin .ensures) (past .if1 .left) in
@@ -42,10 +42,13 @@ over-spans-requires c κs =
 same-length : tie.Need-same-length
 same-length c = search needs
 
+same-length-2 : tie.Need-same-length-2
+same-length-2 c = search needs
+
 returns-2 : tie.Need-returns-2
 returns-2 c =
-    let done = c .before .before in
-    let made = done .before .before .before in
+    let done = c .before .before .before .before in
+    let made = done .before .before .before .before in
     let small = made .before in
     let past = small .before .before in
     let known = underway _ _ _ _ (past .before .before .before .checked-search .ensures) (past .before .before .begin .ensures) (past .if1 .left) in
@@ -64,4 +67,5 @@ search-spec =
     slice-aggregate-over-spans
     over-spans-requires
     same-length
+    same-length-2
     returns-2)

@@ -13,20 +13,20 @@ use Rattle.skip.proofs.try_probed.Statement.{statement}
 use Rattle.skip.proofs.try_probed.Tie as tie
 
 abbrev Inv-loop : tie.InvT-loop
-Inv-loop spans m gamma recording list₀ q n a found₀ i₀ list found i =
+Inv-loop spans m gamma recording list₀ sums₀ q n a found₀ i₀ list sums found i =
     Ready spans m gamma (length recording) × (q < length recording) × (m ≤ q + 1) × (i ≤ m)
     × Trying (soughtBy (ruleIn spans) m gamma recording) (probed (ruleIn spans .fit) m recording q m)
-    (probed (ruleIn spans .fit) m recording q i) (q + 1 - i) (lent list₀) (lent list) found₀ found
+    (probed (ruleIn spans .fit) m recording q i) (q + 1 - i) (lent list₀ sums₀) (lent list sums) found₀ found
 
 abbrev μ-loop : tie.MeasureT-loop
-μ-loop spans m gamma recording list₀ q n a found₀ i₀ list found i = i
+μ-loop spans m gamma recording list₀ sums₀ q n a found₀ i₀ list sums found i = i
 
 shared-slice-read-a : tie.Need-shared-slice-read-a Inv-loop μ-loop
 shared-slice-read-a c = omega arith
 
 loop-holds : tie.Need-loop-holds Inv-loop μ-loop
 loop-holds c =
-    let known = c .before .before .before .before .pre in
+    let known = c .before .before .before .before .before .pre in
     (known .0 .0, known .0 .1, known .0 .2, omega arith, trying-start _ _ _ _ _ (known .1 .0) (omega arith))
 
 sub-i : tie.Need-sub-i Inv-loop μ-loop
@@ -52,8 +52,8 @@ loop-less c = omega arith
 
 loop-again : tie.Need-loop-again Inv-loop μ-loop
 loop-again c =
-    let tried = c .before .before in
-    let inside = tried .before .before in
+    let tried = c .before .before .before .before in
+    let inside = tried .before .before .before in
     let near = inside .before in
     let at-test = near .before .before in
     let inv = at-test .before .loop .inv in (
@@ -100,6 +100,9 @@ loop-again-3 c =
 same-length : tie.Need-same-length Inv-loop μ-loop
 same-length c = search needs
 
+same-length-2 : tie.Need-same-length-2 Inv-loop μ-loop
+same-length-2 c = search needs
+
 returns : tie.Need-returns Inv-loop μ-loop
 returns c =
     let at-loop = c .before in
@@ -127,4 +130,5 @@ try-probed-spec =
     loop-less-3
     loop-again-3
     same-length
+    same-length-2
     returns)

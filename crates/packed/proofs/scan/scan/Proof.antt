@@ -16,116 +16,128 @@ slice-aggregate-read-lead : tie.Need-slice-aggregate-read-lead
 slice-aggregate-read-lead c = search needs
 
 read-lead-requires : tie.Need-read-lead-requires
-read-lead-requires c κs = (may-lead _ _ _ _ _ _ (c .before .if1 .taken) (c .before .before .before .before .before .pre .0), refl)
+read-lead-requires c κs = (may-lead _ _ _ _ _ _ (c .before .if1 .taken) (c .before .before .before .before .before .before .pre .0), refl)
 
 slice-aggregate-read-windows : tie.Need-slice-aggregate-read-windows
 slice-aggregate-read-windows c = search needs
 
 read-windows-requires : tie.Need-read-windows-requires
 read-windows-requires c κs =
-    let led = c .before .before .before in
-    let start = led .before .before .before .before .before .before in
+    let led = c .before .before .before .before in
+    let start = led .before .before .before .before .before .before .before in
     may-window _ _ _ _ _ _ (led .before .before .if1 .taken) (start .pre .0) _ _ (led .read-lead .ensures) _ (start .pre .2)
 
 same-length : tie.Need-same-length
 same-length c = search needs
 
+same-length-2 : tie.Need-same-length-2
+same-length-2 c = search needs
+
 returns : tie.Need-returns
 returns c =
-    let done = c .before .before .before in
-    let led = done .before .before .before .before in
-    scans-all _ _ _ _ _ _ (led .before .before .if1 .taken) (led .before .before .before .before .before .before .pre .0) _ _ (led .read-lead .ensures) (done .read-windows .ensures)
+    let done = c .before .before .before .before .before in
+    let led = done .before .before .before .before .before in
+    scans-all _ _ _ _ _ _ (led .before .before .if1 .taken) (led .before .before .before .before .before .before .before .pre .0) _ _ (led .read-lead .ensures) (done .read-windows .ensures)
 
 slice-aggregate-read-lead-2 : tie.Need-slice-aggregate-read-lead-2
 slice-aggregate-read-lead-2 c = search needs
 
 read-lead-requires-2 : tie.Need-read-lead-requires-2
-read-lead-requires-2 c κs = (may-lead _ _ _ _ _ _ (c .before .if2 .taken) (c .before .before .before .before .before .before .pre .0), refl)
+read-lead-requires-2 c κs = (may-lead _ _ _ _ _ _ (c .before .if2 .taken) (c .before .before .before .before .before .before .before .pre .0), refl)
 
 slice-aggregate-read-windows-2 : tie.Need-slice-aggregate-read-windows-2
 slice-aggregate-read-windows-2 c = search needs
 
 read-windows-requires-2 : tie.Need-read-windows-requires-2
 read-windows-requires-2 c κs =
-    let led = c .before .before .before in
-    let start = led .before .before .before .before .before .before .before in
+    let led = c .before .before .before .before in
+    let start = led .before .before .before .before .before .before .before .before in
     may-window _ _ _ _ _ _ (led .before .before .if2 .taken) (start .pre .0) _ _ (led .read-lead2 .ensures) _ (start .pre .2)
 
-same-length-2 : tie.Need-same-length-2
-same-length-2 c = search needs
+same-length-3 : tie.Need-same-length-3
+same-length-3 c = search needs
+
+same-length-4 : tie.Need-same-length-4
+same-length-4 c = search needs
 
 returns-2 : tie.Need-returns-2
 returns-2 c =
-    let done = c .before .before .before in
-    let led = done .before .before .before .before in
-    scans-all _ _ _ _ _ _ (led .before .before .if2 .taken) (led .before .before .before .before .before .before .before .pre .0) _ _ (led .read-lead2 .ensures) (done .read-windows2 .ensures)
+    let done = c .before .before .before .before .before in
+    let led = done .before .before .before .before .before in
+    scans-all _ _ _ _ _ _ (led .before .before .if2 .taken) (led .before .before .before .before .before .before .before .before .pre .0) _ _ (led .read-lead2 .ensures) (done .read-windows2 .ensures)
 
 slice-aggregate-read-lead-3 : tie.Need-slice-aggregate-read-lead-3
 slice-aggregate-read-lead-3 c = search needs
 
 read-lead-requires-3 : tie.Need-read-lead-requires-3
-read-lead-requires-3 c κs = (may-lead _ _ _ _ _ _ (c .before .if3 .taken) (c .before .before .before .before .before .before .before .pre .0), refl)
+read-lead-requires-3 c κs = (may-lead _ _ _ _ _ _ (c .before .if3 .taken) (c .before .before .before .before .before .before .before .before .pre .0), refl)
 
 slice-aggregate-read-windows-3 : tie.Need-slice-aggregate-read-windows-3
 slice-aggregate-read-windows-3 c = search needs
 
 read-windows-requires-3 : tie.Need-read-windows-requires-3
 read-windows-requires-3 c κs =
-    let led = c .before .before .before in
-    let start = led .before .before .before .before .before .before .before .before in
+    let led = c .before .before .before .before in
+    let start = led .before .before .before .before .before .before .before .before .before in
     may-window _ _ _ _ _ _ (led .before .before .if3 .taken) (start .pre .0) _ _ (led .read-lead3 .ensures) _ (start .pre .2)
 
-same-length-3 : tie.Need-same-length-3
-same-length-3 c = search needs
+same-length-5 : tie.Need-same-length-5
+same-length-5 c = search needs
+
+same-length-6 : tie.Need-same-length-6
+same-length-6 c = search needs
 
 returns-3 : tie.Need-returns-3
 returns-3 c =
-    let done = c .before .before .before in
-    let led = done .before .before .before .before in
-    scans-all _ _ _ _ _ _ (led .before .before .if3 .taken) (led .before .before .before .before .before .before .before .before .pre .0) _ _ (led .read-lead3 .ensures) (done .read-windows3 .ensures)
+    let done = c .before .before .before .before .before in
+    let led = done .before .before .before .before .before in
+    scans-all _ _ _ _ _ _ (led .before .before .if3 .taken) (led .before .before .before .before .before .before .before .before .before .pre .0) _ _ (led .read-lead3 .ensures) (done .read-windows3 .ensures)
 
 slice-aggregate-read-lead-4 : tie.Need-slice-aggregate-read-lead-4
 slice-aggregate-read-lead-4 c = search needs
 
 read-lead-requires-4 : tie.Need-read-lead-requires-4
-read-lead-requires-4 c κs = (may-lead _ _ _ _ _ _ (c .before .if4 .taken) (c .before .before .before .before .before .before .before .before .pre .0), refl)
+read-lead-requires-4 c κs = (may-lead _ _ _ _ _ _ (c .before .if4 .taken) (c .before .before .before .before .before .before .before .before .before .pre .0), refl)
 
 slice-aggregate-read-windows-4 : tie.Need-slice-aggregate-read-windows-4
 slice-aggregate-read-windows-4 c = search needs
 
 read-windows-requires-4 : tie.Need-read-windows-requires-4
 read-windows-requires-4 c κs =
-    let led = c .before .before .before in
-    let start = led .before .before .before .before .before .before .before .before .before in
+    let led = c .before .before .before .before in
+    let start = led .before .before .before .before .before .before .before .before .before .before in
     may-window _ _ _ _ _ _ (led .before .before .if4 .taken) (start .pre .0) _ _ (led .read-lead4 .ensures) _ (start .pre .2)
 
-same-length-4 : tie.Need-same-length-4
-same-length-4 c = search needs
+same-length-7 : tie.Need-same-length-7
+same-length-7 c = search needs
+
+same-length-8 : tie.Need-same-length-8
+same-length-8 c = search needs
 
 returns-4 : tie.Need-returns-4
 returns-4 c =
-    let done = c .before .before .before in
-    let led = done .before .before .before .before in
-    scans-all _ _ _ _ _ _ (led .before .before .if4 .taken) (led .before .before .before .before .before .before .before .before .before .pre .0) _ _ (led .read-lead4 .ensures) (done .read-windows4 .ensures)
+    let done = c .before .before .before .before .before in
+    let led = done .before .before .before .before .before in
+    scans-all _ _ _ _ _ _ (led .before .before .if4 .taken) (led .before .before .before .before .before .before .before .before .before .before .pre .0) _ _ (led .read-lead4 .ensures) (done .read-windows4 .ensures)
 
 -- ---- more than four: there are as many words as are used, before the first reading
 long : (used top : ℕ) → used ≤ 16 → length (take (used - 0) (replicate {A = ℕ} 16 top)) ≡ used
 long used top h = ap (λ (ws : List ℕ). length ws) (fresh-part used 16 top h) ∙ length-replicate used top
 
 -- and after the lead, where they follow the separate sums
-led : (c : tie.After-read-lead5) → let a = c .before .before .before .before .before .before .before .before .before .args in
+led : (c : tie.After-read-lead5) → let a = c .before .before .before .before .before .before .before .before .before .before .args in
     (c .read-lead5 .result ≡ length (a .recording .now) - windows (a .m) (length (a .recording .now)))
     × Follows (a .k) (a .used) (a .table .now) (a .recording .now) (c .read-lead5 .last .1 .1 .1 .0) (c .read-lead5 .result)
 led c =
-    let start = c .before .before .before .before .before .before .before .before .before in
+    let start = c .before .before .before .before .before .before .before .before .before .before in
     rw (long (start .args .used) (start .args .k .top) (start .pre .1)) at (c .read-lead5 .ensures)
 
 -- and they are what is lent again
-again : (c : tie.After-read-lead5) → let a = c .before .before .before .before .before .before .before .before .before .args in
+again : (c : tie.After-read-lead5) → let a = c .before .before .before .before .before .before .before .before .before .before .args in
     let words = c .read-lead5 .last .1 .1 .1 .0 in
     take (a .used - 0) (words ++ postOf 0 (a .used - 0) (replicate {A = ℕ} 16 (a .k .top))) ≡ words
 again c =
-    let a = c .before .before .before .before .before .before .before .before .before .args in
+    let a = c .before .before .before .before .before .before .before .before .before .before .args in
     same-part (a .used) (c .read-lead5 .last .1 .1 .1 .0) (postOf 0 (a .used - 0) (replicate {A = ℕ} 16 (a .k .top))) (led c .1 .long)
 
 sub-read-lead : tie.Need-sub-read-lead
@@ -139,7 +151,7 @@ part-words-end c = search needs
 
 read-lead-requires-5 : tie.Need-read-lead-requires-5
 read-lead-requires-5 c κs =
-    let start = c .before .before .before .before .before .before .before .before in
+    let start = c .before .before .before .before .before .before .before .before .before in
     let used = long (start .args .used) (start .args .k .top) (start .pre .1) in
     (rw used (start .pre .0), rw used (fresh-part (start .args .used) 16 (start .args .k .top) (start .pre .1)))
 
@@ -154,18 +166,21 @@ part-words-end-2 c = simp (length-append) (omega (arith, led (c .before) .1 .lon
 
 read-windows-requires-5 : tie.Need-read-windows-requires-5
 read-windows-requires-5 c κs =
-    let at-lead = c .before .before .before in
-    let start = at-lead .before .before .before .before .before .before .before .before .before in
+    let at-lead = c .before .before .before .before in
+    let start = at-lead .before .before .before .before .before .before .before .before .before .before in
     rw (again at-lead) (may-window _ _ _ _ _ _ refl (start .pre .0) _ _ (led at-lead) _ (start .pre .2))
 
-same-length-5 : tie.Need-same-length-5
-same-length-5 c = search needs
+same-length-9 : tie.Need-same-length-9
+same-length-9 c = search needs
+
+same-length-10 : tie.Need-same-length-10
+same-length-10 c = search needs
 
 returns-5 : tie.Need-returns-5
 returns-5 c =
-    let done = c .before .before .before in
-    let at-lead = done .before .before .before .before in
-    scans-all _ _ _ _ _ _ refl (at-lead .before .before .before .before .before .before .before .before .before .pre .0) _ _ (led at-lead) (rw (again at-lead) at (done .read-windows5 .ensures))
+    let done = c .before .before .before .before .before in
+    let at-lead = done .before .before .before .before .before in
+    scans-all _ _ _ _ _ _ refl (at-lead .before .before .before .before .before .before .before .before .before .before .pre .0) _ _ (led at-lead) (rw (again at-lead) at (done .read-windows5 .ensures))
 
 pub scan-spec : {M : Type 1} → statement M
 scan-spec =
@@ -176,24 +191,28 @@ scan-spec =
     slice-aggregate-read-windows
     read-windows-requires
     same-length
+    same-length-2
     returns
     slice-aggregate-read-lead-2
     read-lead-requires-2
     slice-aggregate-read-windows-2
     read-windows-requires-2
-    same-length-2
+    same-length-3
+    same-length-4
     returns-2
     slice-aggregate-read-lead-3
     read-lead-requires-3
     slice-aggregate-read-windows-3
     read-windows-requires-3
-    same-length-3
+    same-length-5
+    same-length-6
     returns-3
     slice-aggregate-read-lead-4
     read-lead-requires-4
     slice-aggregate-read-windows-4
     read-windows-requires-4
-    same-length-4
+    same-length-7
+    same-length-8
     returns-4
     sub-read-lead
     part-words-start
@@ -203,5 +222,6 @@ scan-spec =
     part-words-start-2
     part-words-end-2
     read-windows-requires-5
-    same-length-5
+    same-length-9
+    same-length-10
     returns-5)

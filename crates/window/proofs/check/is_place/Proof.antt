@@ -1,8 +1,6 @@
 -- `window::check::is_place` meets its contract: the verdict says whether the window is a place. Assumes nothing.
-use mathlib.Core.Path.{ap, _∙_}
+use mathlib.Core.Path.{_∙_}
 use native.Mathlib.Omega.{arith}
-use lib.Dec.{eqb}
-use Rattle.fit.specs.Verdict.{Told}
 use Rattle.fit.proofs.Laws.Verdicts.{told-place}
 use borrow.Author.Needs.{needs}
 use Rattle.window.proofs.check.is_place.Statement.{statement}
@@ -16,7 +14,7 @@ fits-requires c κs = search needs
 
 returns : tie.Need-returns
 returns c =
-    c .fits2 .ensures ∙ ap (λ (t : Told). eqb (t .kind) 1) (c .before .check-at .ensures) ∙ told-place _ _ _ _ _ (omega arith)
+    c .fits2 .ensures ∙ told-place _ _ _ _ _ (c .before .check-at .ensures) (omega arith)
 
 pub is-place-spec : {M : Type 1} → statement M
 is-place-spec = tie.close (tie.spec check-at-requires fits-requires returns)
