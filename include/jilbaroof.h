@@ -11,13 +11,13 @@
  * keeps nothing after it returns. What it answers is proved, for every input. The caller answers for the memory, which the library cannot
  * check:
  *   - a pointer and the length behind it name that many entries, of a recording or profile to be read, of a list to be written;
- *   - the list shares no memory with the points or the recording, nothing else writes any of them during the call, and nothing else
- *     reads the list.
+ *   - no list shares memory with the other one, the points or the recording, nothing else writes any of them during the call, and nothing
+ *     else reads a list.
  * Where a length is 0, nothing is read or written through its pointer, which may be NULL.
  * The functions have no state and may be called from several threads at once. They are compiled for 64-bit processors: size_t has 64 bits.
  *
  * Refusals: the first reason that applies, in this order; 0 where none does. A refused call answers 0 in every other field and leaves
- * the list as it was.
+ * both lists as they were.
  *   1  the profile has no points: usually no file was chosen
  *   7  the profile has more than 64 points, and must be cut
  *   8  the profile holds a 0, which says that contact was lost: every point must be a pressure, 1 to 255
@@ -42,6 +42,7 @@ typedef struct {
     uint32_t refusal; /* 0, or why the search was refused */
     size_t total;     /* how many places there are, listed or not */
     size_t tried;     /* how many windows this searcher tried */
+    uint32_t least;   /* the least sum of all places, listed or not; 0 where there is none, and a perfect fit has 0 too, so look at total */
 } jilbaroof_search;
 
 /* What jilbaroof_first answers. */
@@ -73,31 +74,37 @@ typedef struct {
     uint32_t sum;     /* where it fits or is over: the sum of the differences; else 0 */
 } jilbaroof_verdict;
 
-/* The five searchers. All find the same places: list receives the first of them in rising order, as many as fit, and keeps every other
- * entry. They differ in which windows they try, and so in time and in `tried`. */
+/* The five searchers. All find the same places: list receives the first of them in rising order, as many as fit, and sums receives in the same
+ * order what the differences of each add up to, as many as fit there. Either list may be the longer one, and both keep every other entry.
+ * The searchers differ in which windows they try, and so in time and in `tried`. */
 
 /* Tries every window. */
 jilbaroof_search jilbaroof_plain(const uint8_t *points, size_t m, uint32_t delta, uint32_t gamma,
-                                 const uint8_t *recording, size_t n, uint32_t *list, size_t room);
+                                 const uint8_t *recording, size_t n,
+                                 uint32_t *list, size_t room, uint16_t *sums, size_t sums_room);
 
 /* Keeps a counter for each point, side by side in as many 64-bit words as they need, 16 at most, and reads each reading once, whatever came
  * before; so its time hardly depends on the readings, but for the places that it finds and lists. The more words, the longer it takes. A
  * counter has 1 + b bits, b the least with 2^b above the smaller of gamma and m times d, d the smaller of delta and gamma, and none is
  * split over two words. */
 jilbaroof_search jilbaroof_packed(const uint8_t *points, size_t m, uint32_t delta, uint32_t gamma,
-                                  const uint8_t *recording, size_t n, uint32_t *list, size_t room);
+                                  const uint8_t *recording, size_t n,
+                                  uint32_t *list, size_t room, uint16_t *sums, size_t sums_room);
 
 /* Looks at the last reading of a window, and jumps. */
 jilbaroof_search jilbaroof_last(const uint8_t *points, size_t m, uint32_t delta, uint32_t gamma,
-                                const uint8_t *recording, size_t n, uint32_t *list, size_t room);
+                                const uint8_t *recording, size_t n,
+                                uint32_t *list, size_t room, uint16_t *sums, size_t sums_room);
 
 /* Looks at every m-th reading, and tries the windows that put a near point there. */
 jilbaroof_search jilbaroof_skip(const uint8_t *points, size_t m, uint32_t delta, uint32_t gamma,
-                                const uint8_t *recording, size_t n, uint32_t *list, size_t room);
+                                const uint8_t *recording, size_t n,
+                                uint32_t *list, size_t room, uint16_t *sums, size_t sums_room);
 
 /* Compares the points that promise long jumps first, and takes the larger of two jumps. */
 jilbaroof_search jilbaroof_maximal(const uint8_t *points, size_t m, uint32_t delta, uint32_t gamma,
-                                   const uint8_t *recording, size_t n, uint32_t *list, size_t room);
+                                   const uint8_t *recording, size_t n,
+                                   uint32_t *list, size_t room, uint16_t *sums, size_t sums_room);
 
 /* Is there a place at all? Goes as jilbaroof_last does, stops at the first place, and lists nothing. The place is the first entry of a
  * searcher's list, and there is none exactly where the total of a search that is not refused is 0. `tried` counts the windows that jilbaroof_last tries up to and

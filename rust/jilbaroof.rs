@@ -3,8 +3,8 @@
 //!
 //! Which side checks what. The library checks every value (points, tolerances, lengths, point numbers, positions) and answers or refuses by a
 //! number (below); that each answer is the one its definition gives is proved. What it takes for granted is memory: that a slice is valid
-//! for its length, and that the lent list shares no memory with what is read. Rust's types guarantee just that, so nothing is checked
-//! here, and every function is safe for every argument. The calls below are the only `unsafe` code.
+//! for its length, and that a lent list shares no memory with the other one or with what is read. Rust's types guarantee just that, so
+//! nothing is checked here, and every function is safe for every argument. The calls below are the only `unsafe` code.
 //!
 //! A reading is a pressure from 1 to 255, or 0 where the sensor had lost contact. A window holding a 0 is no place, whatever the tolerances,
 //! and 0 is near to no point.
@@ -23,13 +23,15 @@
 // as a module it may have functions that its crate does not use
 #![allow(dead_code)]
 
-/// What a search answers: the number of its refusal and zeros; or 0, the total of places and the count of windows tried.
+/// What a search answers: the number of its refusal and zeros; or 0, the total of places, the count of windows tried and the least sum.
 #[repr(C)]
 #[derive(Clone, Copy, Debug, PartialEq, Eq)]
 pub struct Search {
     pub refusal: u32,
     pub total: usize,
     pub tried: usize,
+    /// The least sum of all places, listed or not. It is 0 where there is none, and of a perfect fit: `total` tells which.
+    pub least: u32,
 }
 
 /// What `first` answers: the number of its refusal, no place and 0; or 0, the first place if there is one, and the count of windows tried.
@@ -83,6 +85,8 @@ mod boundary {
                     n: usize,
                     list: *mut u32,
                     room: usize,
+                    sums: *mut u16,
+                    sums_room: usize,
                 ) -> Search;)*
             }
         };
@@ -128,15 +132,16 @@ mod boundary {
     }
 }
 
-/// A searcher: the points, delta, gamma, the recording, and the list that receives the first places, as many as fit, in rising order.
-/// Entries beyond those stay as they were, all of them where the search is refused.
-pub type Searcher = fn(&[u8], u32, u32, &[u8], &mut [u32]) -> Search;
+/// A searcher: the points, delta, gamma, the recording, the list that receives the first places, as many as fit, in rising order, and the list
+/// that receives their sums in the same order, as many as fit there. Entries beyond those stay as they were, all of both lists where the search
+/// is refused.
+pub type Searcher = fn(&[u8], u32, u32, &[u8], &mut [u32], &mut [u16]) -> Search;
 
 macro_rules! searcher {
     ($(#[$doc:meta])* $name:ident, $there:ident) => {
         $(#[$doc])*
-        pub fn $name(points: &[u8], delta: u32, gamma: u32, recording: &[u8], list: &mut [u32]) -> Search {
-            // SAFETY: the slices are valid for their lengths, the list is borrowed alone, and the library keeps none of them
+        pub fn $name(points: &[u8], delta: u32, gamma: u32, recording: &[u8], list: &mut [u32], sums: &mut [u16]) -> Search {
+            // SAFETY: the slices are valid for their lengths, each list is borrowed alone, and the library keeps none of them
             unsafe {
                 boundary::$there(
                     points.as_ptr(),
@@ -147,6 +152,8 @@ macro_rules! searcher {
                     recording.len(),
                     list.as_mut_ptr(),
                     list.len(),
+                    sums.as_mut_ptr(),
+                    sums.len(),
                 )
             }
         }

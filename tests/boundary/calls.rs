@@ -20,17 +20,25 @@ const fn with_zero(p: usize) -> [u8; 65] {
     points
 }
 
-/// E4 and E5 with room for all, and E4 with less and with none.
-fn search(name: &str, ask: Searcher, tried: usize) {
-    let mut list = [9; 5];
-    assert_eq!(ask(&P, 1, 2, &L, &mut list), Search { refusal: 0, total: 2, tried }, "{name}");
-    assert_eq!(list, [0, 6, 9, 9, 9], "{name}");
-    assert_eq!(ask(&P, 1, 3, &L, &mut list).total, 4, "{name}");
-    assert_eq!(list, [0, 3, 6, 10, 9], "{name}");
-    let mut short = [9; 1];
-    assert_eq!(ask(&P, 1, 2, &L, &mut short).total, 2, "{name}");
-    assert_eq!(short, [0], "{name}");
-    assert_eq!(ask(&P, 1, 2, &L, &mut []).total, 2, "{name}");
+/// E4, with a perfect fit, E5, and E5 from position 1 on, whose least sum is not the first; with lists of each length from 0 to 5, in all pairs.
+fn search(name: &str, ask: Searcher, tried: usize, tried_from_1: usize) {
+    for (gamma, from, tried, least, places, its_sums) in [
+        (2, 0, tried, 0, &[0, 6][..], &[0, 2][..]),
+        (3, 0, tried, 0, &[0, 3, 6, 10], &[0, 3, 2, 3]),
+        (3, 1, tried_from_1, 2, &[2, 5, 9], &[3, 2, 3]),
+    ] {
+        for (room, sums_room) in (0..=5).flat_map(|room| (0..=5).map(move |sums_room| (room, sums_room))) {
+            let (mut list, mut sums) = (vec![99; room], vec![99; sums_room]);
+            let found = Search { refusal: 0, total: places.len(), tried, least };
+            assert_eq!(ask(&P, 1, gamma, &L[from..], &mut list, &mut sums), found, "{name}");
+            assert_eq!((list, sums), (laid(places, room), laid(its_sums, sums_room)), "{name}");
+        }
+    }
+}
+
+/// A list of so many entries of 99 with these laid in, as many as fit.
+fn laid<T: Copy + From<u8>>(entries: &[T], room: usize) -> Vec<T> {
+    entries.iter().copied().chain([T::from(99); 5]).take(room).collect()
 }
 
 /// Calls that are refused by 1, 7, 8, 2 or 3, the first that applies in this order, also by numbers that a narrower type would cut to allowed
@@ -61,86 +69,95 @@ fn refusals(many: &[u8]) -> [(u32, &[u8], u32, u32, &[u8]); 21] {
     ]
 }
 
-/// Each of them, and the list stays as it was.
+/// Each of them, and both lists stay as they were.
 fn search_refused(name: &str, ask: Searcher, many: &[u8]) {
     for (number, points, delta, gamma, recording) in refusals(many) {
-        let mut list = [9; 5];
-        let refused = Search { refusal: number, total: 0, tried: 0 };
-        assert_eq!(ask(points, delta, gamma, recording, &mut list), refused, "{name}");
-        assert_eq!(list, [9; 5], "{name}");
+        let (mut list, mut sums) = ([9; 5], [9; 5]);
+        let refused = Search { refusal: number, total: 0, tried: 0, least: 0 };
+        assert_eq!(ask(points, delta, gamma, recording, &mut list, &mut sums), refused, "{name}");
+        assert_eq!((list, sums), ([9; 5], [9; 5]), "{name}");
     }
 }
 
-/// What is just allowed: no reading, fewer than points, as many; 64 points, also with a 0 behind them; the widest tolerances; a million readings.
-fn search_limits(name: &str, ask: Searcher, many: &[u8]) {
-    let found = |total, tried| Search { refusal: 0, total, tried };
-    let mut list = [9; 1];
-    assert_eq!(ask(&P, 1, 2, &[], &mut []), found(0, 0), "{name}");
-    assert_eq!(ask(&P, 1, 2, &L[..2], &mut list), found(0, 0), "{name}");
-    assert_eq!(list, [9], "{name}");
-    assert_eq!(ask(&P, 1, 2, &L[..3], &mut list), found(1, 1), "{name}");
-    assert_eq!(list, [0], "{name}");
-    assert_eq!(ask(&many[..64], 0, 0, &many[..64], &mut []), found(1, 1), "{name}");
-    assert_eq!(ask(&ZERO_65[..64], 0, 0, &many[..64], &mut []), found(1, 1), "{name}");
-    let all = ask(&P, 255, 16_320, &L, &mut []);
-    assert_eq!((all.refusal, all.total), (0, 12), "{name}");
-    let none = ask(&P, 1, 2, &many[..1_000_000], &mut []);
-    assert_eq!((none.refusal, none.total), (0, 0), "{name}");
+/// What is just allowed: no reading, fewer than points, as many; 64 points, also with a 0 behind them; the widest tolerances, and the greatest sum
+/// that two pressures a point can have; a million readings, none a place, or all, the closest far behind both lists.
+fn search_limits(name: &str, ask: Searcher, many: &[u8], late: &[u8]) {
+    let found = |total, tried, least| Search { refusal: 0, total, tried, least };
+    let (mut list, mut sums) = ([9; 1], [9; 1]);
+    assert_eq!(ask(&P, 1, 2, &[], &mut [], &mut []), found(0, 0, 0), "{name}");
+    assert_eq!(ask(&P, 1, 2, &L[..2], &mut list, &mut sums), found(0, 0, 0), "{name}");
+    assert_eq!((list, sums), ([9], [9]), "{name}");
+    assert_eq!(ask(&P, 1, 2, &L[..3], &mut list, &mut sums), found(1, 1, 0), "{name}");
+    assert_eq!((list, sums), ([0], [0]), "{name}");
+    assert_eq!(ask(&many[..64], 0, 0, &many[..64], &mut [], &mut []), found(1, 1, 0), "{name}");
+    assert_eq!(ask(&ZERO_65[..64], 0, 0, &many[..64], &mut [], &mut []), found(1, 1, 0), "{name}");
+    assert_eq!(ask(&many[..64], 255, 16_320, &[255; 64], &mut [], &mut sums), found(1, 1, 16_256), "{name}");
+    assert_eq!(sums, [16_256], "{name}");
+    let all = ask(&P, 255, 16_320, &L, &mut [], &mut []);
+    assert_eq!((all.refusal, all.total, all.least), (0, 12, 0), "{name}");
+    let none = ask(&P, 1, 2, &many[..1_000_000], &mut list, &mut sums);
+    assert_eq!((none.refusal, none.total, none.least), (0, 0, 0), "{name}");
+    assert_eq!((list, sums), ([0], [16_256]), "{name}");
+    assert_eq!(ask(&[10], 9, 9, late, &mut list, &mut sums), found(1_000_000, 1_000_000, 1), "{name}");
+    assert_eq!((list, sums), ([0], [9]), "{name}");
 }
 
 /// A window holding a 0 is no place, within the tolerances or at the widest; with 1 in the place of each 0 it is one.
 fn search_lost(name: &str, ask: Searcher, tried: usize, tried_widest: usize) {
-    let mut list = [9; 5];
-    assert_eq!(ask(&Q, 12, 12, &Y, &mut list), Search { refusal: 0, total: 1, tried }, "{name}");
-    assert_eq!(list, [13, 9, 9, 9, 9], "{name}");
-    assert_eq!(ask(&[1], 255, 16_320, &SOME, &mut list), Search { refusal: 0, total: 2, tried: tried_widest }, "{name}");
-    assert_eq!(list, [1, 3, 9, 9, 9], "{name}");
-    assert_eq!(ask(&Q, 12, 12, &Y.map(|y| y.max(1)), &mut list).total, 4, "{name}");
-    assert_eq!(list, [1, 5, 9, 13, 9], "{name}");
+    let found = |total, tried, least| Search { refusal: 0, total, tried, least };
+    let (mut list, mut sums) = ([9; 5], [9; 5]);
+    assert_eq!(ask(&Q, 12, 12, &Y, &mut list, &mut sums), found(1, tried, 1), "{name}");
+    assert_eq!((list, sums), ([13, 9, 9, 9, 9], [1, 9, 9, 9, 9]), "{name}");
+    assert_eq!(ask(&[1], 255, 16_320, &SOME, &mut list, &mut sums), found(2, tried_widest, 0), "{name}");
+    assert_eq!((list, sums), ([1, 3, 9, 9, 9], [0, 254, 9, 9, 9]), "{name}");
+    let whole = ask(&Q, 12, 12, &Y.map(|y| y.max(1)), &mut list, &mut sums[..4]);
+    assert_eq!((whole.total, whole.least), (4, 1), "{name}");
+    assert_eq!((list, sums), ([1, 5, 9, 13, 9], [11, 9, 7, 1, 9]), "{name}");
     // long enough for blocks of 64 windows
     let mut gap = [0; 200];
     gap[100..103].fill(1);
     for (delta, gamma) in [(1, 2), (255, 16_320)] {
-        list[0] = 9;
-        assert_eq!(ask(&[1; 3], delta, gamma, &gap, &mut list).total, 1, "{name}");
-        assert_eq!(list, [100, 5, 9, 13, 9], "{name}");
+        (list[0], sums[0]) = (9, 9);
+        let one = ask(&[1; 3], delta, gamma, &gap, &mut list, &mut sums);
+        assert_eq!((one.total, one.least), (1, 0), "{name}");
+        assert_eq!((list, sums), ([100, 5, 9, 13, 9], [0, 9, 7, 1, 9]), "{name}");
     }
 }
 
 /// Profiles whose counters packed has in one word of 64 bits, in two (80 bits, as E10's second input) and in 16, which is the most: every
-/// searcher accepts them all. All readings are near, so that only the sums decide; in the last search one reading is a 0.
+/// searcher accepts them all. All readings are near, so that only the sums decide, which are above gamma, at it and below it, and too great for
+/// 8 bits; in the last search one reading is a 0.
 fn search_words(name: &str, ask: Searcher, tried_lost: usize) {
-    let found = |total, tried| Search { refusal: 0, total, tried };
-    let mut list = [9; 8];
+    let found = |total, tried, least| Search { refusal: 0, total, tried, least };
+    let (mut list, mut sums) = ([9; 8], [9; 9]);
     let pairs = [1, 2].repeat(10);
-    assert_eq!(ask(&[1; 16], 1, 7, &pairs, &mut list), found(0, 5), "{name}");
-    assert_eq!(list, [9; 8], "{name}");
-    assert_eq!(ask(&[1; 16], 1, 8, &pairs, &mut list), found(5, 5), "{name}");
-    assert_eq!(list, [0, 1, 2, 3, 4, 9, 9, 9], "{name}");
+    assert_eq!(ask(&[1; 16], 1, 7, &pairs, &mut list, &mut sums), found(0, 5, 0), "{name}");
+    assert_eq!((list, sums), ([9; 8], [9; 9]), "{name}");
+    assert_eq!(ask(&[1; 16], 1, 8, &pairs, &mut list, &mut sums), found(5, 5, 8), "{name}");
+    assert_eq!((list, sums), ([0, 1, 2, 3, 4, 9, 9, 9], [8, 8, 8, 8, 8, 9, 9, 9, 9]), "{name}");
     // 64 differences of 128 are 8,192, and counters of 15 bits; one of them is 127 in the windows from 37 to 100
     let mut high = [129; 200];
     high[100] = 128;
-    assert_eq!(ask(&[1; 64], 128, 8_191, &high, &mut list), found(64, 137), "{name}");
-    assert_eq!(list, [37, 38, 39, 40, 41, 42, 43, 44], "{name}");
-    assert_eq!(ask(&[1; 64], 128, 8_192, &high, &mut list), found(137, 137), "{name}");
-    assert_eq!(list, [0, 1, 2, 3, 4, 5, 6, 7], "{name}");
+    assert_eq!(ask(&[1; 64], 128, 8_191, &high, &mut list, &mut sums), found(64, 137, 8_191), "{name}");
+    assert_eq!((list, sums), ([37, 38, 39, 40, 41, 42, 43, 44], [8_191; 9]), "{name}");
+    assert_eq!(ask(&[1; 64], 128, 8_192, &high, &mut list, &mut sums), found(137, 137, 8_191), "{name}");
+    assert_eq!((list, sums), ([0, 1, 2, 3, 4, 5, 6, 7], [8_192; 9]), "{name}");
     high[70] = 0;
-    assert_eq!(ask(&[1; 64], 255, 16_320, &high, &mut list), found(73, tried_lost), "{name}");
+    assert_eq!(ask(&[1; 64], 255, 16_320, &high, &mut list, &mut sums), found(73, tried_lost, 8_191), "{name}");
     assert_eq!(list, [0, 1, 2, 3, 4, 5, 6, 71], "{name}");
+    assert_eq!(sums, [8_192, 8_192, 8_192, 8_192, 8_192, 8_192, 8_192, 8_191, 8_191], "{name}");
 }
 
 /// E4; E4 from position 1 on and E5 from 2 on, where place and count differ; a place at the last window, and none with one reading less; a
 /// place and a count that 16 bits do not hold; readings of 0.
-fn first() {
-    let mut late = vec![1; 1_000_000];
-    late[999_997] = 9;
+fn first(late: &[u8]) {
     for (points, delta, gamma, recording, spot, tried) in [
         (&P, 1, 2, &L[..], Some(0), 1),
         (&P, 1, 2, &L[1..], Some(5), 3),
         (&P, 1, 3, &L[2..], Some(1), 2),
         (&P, 1, 2, &L[1..9], Some(5), 3),
         (&P, 1, 2, &L[1..8], None, 2),
-        (&[9, 1, 1], 0, 0, &late, Some(999_997), 999_996),
+        (&[9, 1, 1], 0, 0, late, Some(999_997), 999_996),
         (&Q, 12, 12, &Y, Some(13), 5),
         (&Q, 12, 12, &Y[..12], None, 3),
     ] {
@@ -225,21 +242,23 @@ fn question_refused(ask: fn(&[u8], u32, u32) -> Jump, last: u32, many: &[u8]) {
 
 fn main() {
     let many = vec![1; 1_000_001];
-    for (name, ask, tried, tried_lost, tried_widest, tried_words) in [
-        ("plain", jilbaroof::plain as Searcher, 12, 15, 4, 137),
-        ("packed", jilbaroof::packed, 12, 15, 4, 137),
-        ("last", jilbaroof::last, 5, 5, 2, 73),
-        ("skip", jilbaroof::skip, 6, 9, 2, 137),
-        ("maximal", jilbaroof::maximal, 5, 5, 3, 73),
+    let mut late = vec![1; 1_000_000];
+    late[999_997] = 9;
+    for (name, ask, tried, tried_from_1, tried_lost, tried_widest, tried_words) in [
+        ("plain", jilbaroof::plain as Searcher, 12, 11, 15, 4, 137),
+        ("packed", jilbaroof::packed, 12, 11, 15, 4, 137),
+        ("last", jilbaroof::last, 5, 4, 5, 2, 73),
+        ("skip", jilbaroof::skip, 6, 5, 9, 2, 137),
+        ("maximal", jilbaroof::maximal, 5, 5, 5, 3, 73),
     ] {
-        search(name, ask, tried);
+        search(name, ask, tried, tried_from_1);
         search_lost(name, ask, tried_lost, tried_widest);
         search_words(name, ask, tried_words);
         search_refused(name, ask, &many);
-        search_limits(name, ask, &many);
+        search_limits(name, ask, &many, &late);
     }
 
-    first();
+    first(&late);
     first_limits(&many);
 
     check(&many);
