@@ -1,8 +1,9 @@
 //! Measures the five searchers, through the C boundary, against the two programs of rivals.rs and, where there is one, a Python with
-//! NumPy; built with `--cfg earlier`, also against the searchers of an earlier revision. It prints a table. Every answer, total and whole
-//! list, is held to the straightforward program's; a difference ends the bench with status 1. Times are the minimum over interleaved
-//! rounds: each round runs every program once, after clearing the list and reading the recording once for each. A second table, of first.rs,
-//! has `first` beside `last`.
+//! NumPy; built with `--cfg earlier`, also against the searchers of an earlier revision. It prints a table. Every answer, total, least sum and
+//! both whole lists, is held to the straightforward program's; a difference ends the bench with status 1. NumPy tells no sums, and neither do
+//! the searchers before request #107, for which `--cfg earlier_without_sums` is given. Times are the minimum over interleaved rounds: each
+//! round runs every program once, after clearing the lists and reading the recording once for each. A second table, of first.rs, has `first`
+//! beside `last`.
 //! The arguments are the number of rounds and, for NumPy, the command that starts bench/whole_arrays.py; or `first` and the number of rounds,
 //! for the second table alone.
 mod first;
@@ -15,12 +16,12 @@ use rows::{READINGS, Recordings, Row};
 use std::hint::black_box;
 use std::time::{Duration, Instant};
 
-/// The total of places, or the number of a refusal.
-type Answer = Result<usize, u32>;
+/// The total of places and the least sum, 0 from a program that tells no sums; or the number of a refusal.
+type Answer = Result<(usize, u32), u32>;
 
 /// How a program is run.
 enum Program {
-    Here(fn(&[u8], u32, u32, &[u8], &mut [u32]) -> Answer),
+    Here(fn(&[u8], u32, u32, &[u8], &mut [u32], &mut [u16]) -> Answer),
     Python(Numpy),
 }
 
@@ -28,6 +29,7 @@ enum Program {
 struct Contender {
     name: &'static str,
     earlier: bool,
+    tells_sums: bool,
     program: Program,
 }
 
@@ -38,7 +40,17 @@ const EARLY_EXIT: usize = 1;
 /// A searcher of today and, where it is linked, the earlier one. The two libraries have types of their own, so this is no function.
 macro_rules! searcher {
     ($contenders:ident, $name:ident) => {
-        #[cfg(earlier)]
+        #[cfg(all(earlier, earlier_without_sums))]
+        $contenders.push(Contender {
+            name: stringify!($name),
+            earlier: true,
+            tells_sums: false,
+            program: Program::Here(|points, delta, gamma, recording, list, _| {
+                let got = earlier::$name(points, delta, gamma, recording, list);
+                if got.refusal == 0 { Ok((got.total, 0)) } else { Err(got.refusal) }
+            }),
+        });
+        #[cfg(all(earlier, not(earlier_without_sums)))]
         $contenders.push(searcher!(earlier, $name, true));
         $contenders.push(searcher!(jilbaroof, $name, false));
     };
@@ -46,21 +58,22 @@ macro_rules! searcher {
         Contender {
             name: stringify!($name),
             earlier: $earlier,
-            program: Program::Here(|points, delta, gamma, recording, list| {
-                let got = $library::$name(points, delta, gamma, recording, list);
-                if got.refusal == 0 { Ok(got.total) } else { Err(got.refusal) }
+            tells_sums: true,
+            program: Program::Here(|points, delta, gamma, recording, list, sums| {
+                let got = $library::$name(points, delta, gamma, recording, list, sums);
+                if got.refusal == 0 { Ok((got.total, got.least)) } else { Err(got.refusal) }
             }),
         }
     };
 }
 
 fn contenders(numpy: Option<Numpy>) -> Vec<Contender> {
-    let rival = |name, program| Contender { name, earlier: false, program };
+    let rival = |name, tells_sums, program| Contender { name, earlier: false, tells_sums, program };
     let mut all = vec![
-        rival("straightforward", Program::Here(|x, d, g, y, list| Ok(rivals::straightforward(x, d, g, y, list)))),
-        rival("early exit", Program::Here(|x, d, g, y, list| Ok(rivals::early_exit(x, d, g, y, list)))),
+        rival("straightforward", true, Program::Here(|x, d, g, y, list, sums| Ok(rivals::straightforward(x, d, g, y, list, sums)))),
+        rival("early exit", true, Program::Here(|x, d, g, y, list, sums| Ok(rivals::early_exit(x, d, g, y, list, sums)))),
     ];
-    all.extend(numpy.map(|numpy| rival("NumPy", Program::Python(numpy))));
+    all.extend(numpy.map(|numpy| rival("NumPy", false, Program::Python(numpy))));
     searcher!(all, plain);
     searcher!(all, packed);
     searcher!(all, last);
@@ -86,15 +99,15 @@ impl Program {
     }
 
     /// One search, and the time that it took.
-    fn search(&mut self, row: &Row, list: &mut [u32]) -> (Answer, Duration) {
+    fn search(&mut self, row: &Row, list: &mut [u32], sums: &mut [u16]) -> (Answer, Duration) {
         match self {
             Program::Here(program) => {
                 let (points, recording) = (black_box(&row.points[..]), black_box(row.recording));
-                timed(recording, || program(points, row.delta, row.gamma, recording, black_box(list)))
+                timed(recording, || program(points, row.delta, row.gamma, recording, black_box(list), black_box(sums)))
             }
             Program::Python(numpy) => {
                 let (total, took) = numpy.search(list).expect("NumPy answers");
-                (Ok(total), took)
+                (Ok((total, 0)), took)
             }
         }
     }
@@ -108,35 +121,55 @@ fn fail(row: &Row, contender: &Contender, what: &str) -> ! {
     std::process::exit(1);
 }
 
+/// What the straightforward program answered, with its lists.
+#[derive(Default)]
+struct Right {
+    total: usize,
+    least: u32,
+    list: Vec<u32>,
+    sums: Vec<u16>,
+}
+
+impl Right {
+    /// Ends the bench where another program answered something else.
+    fn hold(&self, row: &Row, contender: &Contender, got: Answer, list: &[u32], sums: &[u16]) {
+        let answer = Ok((self.total, if contender.tells_sums { self.least } else { 0 }));
+        if got != answer {
+            fail(row, contender, &format!("{got:?}, and {answer:?} is right"));
+        }
+        if list != self.list {
+            fail(row, contender, "another list");
+        }
+        if contender.tells_sums && sums != self.sums {
+            fail(row, contender, "other sums");
+        }
+    }
+}
+
 /// The total of places, and the shortest time of each program; none for an earlier packed that is refused.
 fn measure(row: &Row, rounds: usize, contenders: &mut [Contender]) -> (usize, Vec<Option<Duration>>) {
-    let mut list = vec![0; READINGS];
-    let mut right = vec![0; READINGS];
-    let mut total = 0;
+    let (mut list, mut sums) = (vec![0; READINGS], vec![0; READINGS]);
+    let mut right = Right::default();
     let mut best = vec![None; contenders.len()];
     contenders.iter_mut().for_each(|contender| contender.program.meet(row));
     for round in 0..rounds {
         for (k, contender) in contenders.iter_mut().enumerate() {
             list.fill(0);
-            let (got, took) = contender.program.search(row, &mut list);
+            sums.fill(0);
+            let (got, took) = contender.program.search(row, &mut list, &mut sums);
             if k == STRAIGHTFORWARD && round == 0 {
-                total = got.unwrap();
-                right.copy_from_slice(&list);
+                let (total, least) = got.unwrap();
+                right = Right { total, least, list: list.clone(), sums: sums.clone() };
             }
             // until request #104 packed had one word, and refused by 4 what does not fit it; the list stays as it was
             if contender.earlier && contender.name == "packed" && got == Err(4) && row.words() > 1 && list.iter().all(|entry| *entry == 0) {
                 continue;
             }
-            if got != Ok(total) {
-                fail(row, contender, &format!("{got:?}, and Ok({total}) is right"));
-            }
-            if list != right {
-                fail(row, contender, "another list");
-            }
+            right.hold(row, contender, got, &list, &sums);
             best[k] = Some(best[k].map_or(took, |least: Duration| least.min(took)));
         }
     }
-    (total, best)
+    (right.total, best)
 }
 
 /// A line of the table: the early-exit program in milliseconds, every other as its ratio to that, the earlier searcher's first.

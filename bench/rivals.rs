@@ -1,15 +1,45 @@
-//! The two Rust programs that the searchers are measured against. They take what a searcher takes and answer the total of places.
-//! They turn nothing away: the bench passes accepted inputs only, with 1 point or more and none of them 0.
+//! The two Rust programs that the searchers are measured against. They take what a searcher takes, and answer the total of places and the least
+//! sum. They turn nothing away: the bench passes accepted inputs only, with 1 point or more and none of them 0.
+
+/// The places so far, and the lists that receive the first of them and their sums.
+struct Found<'a> {
+    list: &'a mut [u32],
+    sums: &'a mut [u16],
+    total: usize,
+    least: u32,
+}
+
+impl Found<'_> {
+    fn none<'a>(list: &'a mut [u32], sums: &'a mut [u16]) -> Found<'a> {
+        Found { list, sums, total: 0, least: u32::MAX }
+    }
+
+    fn note(&mut self, s: usize, sum: u32) {
+        if let Some(entry) = self.list.get_mut(self.total) {
+            *entry = s as u32;
+        }
+        if let Some(entry) = self.sums.get_mut(self.total) {
+            *entry = sum as u16;
+        }
+        self.total += 1;
+        self.least = self.least.min(sum);
+    }
+
+    /// The total, and the least sum, which is 0 where there is none.
+    fn told(&self) -> (usize, u32) {
+        (self.total, if self.total == 0 { 0 } else { self.least })
+    }
+}
 
 /// Tries every window, and leaves it at the first point that is not near, in the fastest form known: near is one subtraction and one
-/// comparison, the first point's numbers stay in registers, four windows a turn, and the sum is taken only where it can exceed gamma.
-pub fn early_exit(points: &[u8], delta: u32, gamma: u32, recording: &[u8], list: &mut [u32]) -> usize {
+/// comparison, the first point's numbers stay in registers, four windows a turn, and the sum is taken only where all points are near.
+pub fn early_exit(points: &[u8], delta: u32, gamma: u32, recording: &[u8], list: &mut [u32], sums: &mut [u16]) -> (usize, u32) {
     let (m, n) = (points.len(), recording.len());
+    let mut found = Found::none(list, sums);
     if n < m {
-        return 0;
+        return found.told();
     }
     let d = delta.min(gamma).min(255) as u8;
-    let sums = m as u32 * u32::from(d) > gamma;
     // for each point the least near reading, which is never 0, and how many more are near
     let spans: Vec<(u8, u8)> = points
         .iter()
@@ -18,7 +48,6 @@ pub fn early_exit(points: &[u8], delta: u32, gamma: u32, recording: &[u8], list:
         .collect();
     let (low, span) = spans[0];
     let rest = &spans[1..];
-    let mut total = 0;
     let mut try_rest = |s: usize| {
         let window = &recording[s..s + m];
         for (y, (low, span)) in window[1..].iter().zip(rest) {
@@ -26,16 +55,10 @@ pub fn early_exit(points: &[u8], delta: u32, gamma: u32, recording: &[u8], list:
                 return;
             }
         }
-        if sums {
-            let sum: u32 = points.iter().zip(window).map(|(x, y)| u32::from(x.abs_diff(*y))).sum();
-            if sum > gamma {
-                return;
-            }
+        let sum: u32 = points.iter().zip(window).map(|(x, y)| u32::from(x.abs_diff(*y))).sum();
+        if sum <= gamma {
+            found.note(s, sum);
         }
-        if let Some(entry) = list.get_mut(total) {
-            *entry = s as u32;
-        }
-        total += 1;
     };
     let starts = &recording[..n - m + 1];
     let (fours, left) = starts.as_chunks::<4>();
@@ -58,31 +81,29 @@ pub fn early_exit(points: &[u8], delta: u32, gamma: u32, recording: &[u8], list:
             try_rest(4 * fours.len() + k);
         }
     }
-    total
+    found.told()
 }
 
 /// The same job as one would write it first: the definition of a place, window by window.
-pub fn straightforward(points: &[u8], delta: u32, gamma: u32, recording: &[u8], list: &mut [u32]) -> usize {
-    let mut total = 0;
+pub fn straightforward(points: &[u8], delta: u32, gamma: u32, recording: &[u8], list: &mut [u32], sums: &mut [u16]) -> (usize, u32) {
+    let mut found = Found::none(list, sums);
     for (s, window) in recording.windows(points.len()).enumerate() {
-        if is_place(points, delta, gamma, window) {
-            if total < list.len() {
-                list[total] = s as u32;
-            }
-            total += 1;
+        if let Some(sum) = sum_of_place(points, delta, gamma, window) {
+            found.note(s, sum);
         }
     }
-    total
+    found.told()
 }
 
-fn is_place(points: &[u8], delta: u32, gamma: u32, window: &[u8]) -> bool {
+/// The sum of a window that is a place.
+fn sum_of_place(points: &[u8], delta: u32, gamma: u32, window: &[u8]) -> Option<u32> {
     let mut sum = 0;
     for (x, y) in points.iter().zip(window) {
         let difference = u32::from(x.abs_diff(*y));
         if difference > delta || *y == 0 {
-            return false;
+            return None;
         }
         sum += difference;
     }
-    sum <= gamma
+    (sum <= gamma).then_some(sum)
 }
