@@ -61,7 +61,7 @@ type Made = (Profile, Vec<u8>);
 type Kind = fn(&mut Draw) -> Made;
 
 /// Kinds that need no 0 for what they try, and whose profiles are accepted.
-const ORDINARY: [Kind; 15] = [
+const ORDINARY: [Kind; 17] = [
     few_readings,
     ends_of_the_readings,
     sums_about_gamma,
@@ -74,12 +74,16 @@ const ORDINARY: [Kind; 15] = [
     smooth_recording,
     repeating_profile,
     no_tolerance,
+    points_about_the_last,
+    windows_at_landings,
     block_borders,
     block_borders_all_near,
     block_borders_all_near,
 ];
 const ZEROS: [Kind; 4] = [zeros_within_tolerance, zeros_within_tolerance, zeros_alone_decide, contact_lost];
-const REFUSED: [Kind; 5] = [refused, refused, refused, zero_in_the_profile, zero_in_the_profile];
+/// `zero_in_the_profile` stands here a third time so that there are 27 kinds: a number without a divisor in common with 5, 10 and 200, the steps
+/// at which other cases take a kind's turn, so that all kinds give way to them alike.
+const REFUSED: [Kind; 6] = [refused, refused, refused, zero_in_the_profile, zero_in_the_profile, zero_in_the_profile];
 
 /// One case in so many is long: refused, for its length or before that, or as long as is accepted. It is not always the same kind that gives way
 /// to it, since the number of kinds does not divide this one.
@@ -551,6 +555,67 @@ fn no_tolerance(draw: &mut Draw) -> Made {
     (profile(draw.points(m, alphabet), delta, gamma), draw.readings(n, alphabet))
 }
 
+/// The points are just so far from the last one that it depends on the reading how far to go on behind a tried window: near it, near readings
+/// that are near it, or not even that. All of them, or one alone, and the others are far. The readings are the same ones, so that many windows
+/// are tried, and their last readings are near the last point by d or not by one. Now and then they are all alike.
+fn points_about_the_last(draw: &mut Draw) -> Made {
+    let m = draw.one_of(&[1, 2, 2, 3, 3, 5, 9, 64]);
+    let delta = draw.number(0, 9);
+    let (less, some) = (draw.number(0, delta), draw.number(delta, delta * m as u32));
+    let gamma = draw.one_of(&[less, some, delta * m as u32, 16_320]);
+    let d = delta.min(gamma) as u8;
+    let last = draw.one_of(&[d + 1, 100, 100, 255 - d]);
+    let apart = [0, d, d, d + 1, d + 1, 2 * d, 2 * d + 1];
+    let about: Vec<u8> = apart.iter().flat_map(|k| [last.saturating_add(*k), last.saturating_sub(*k).max(1)]).collect();
+    let far = if last < 128 { last + 2 * d + 1 } else { last - 2 * d - 1 };
+    let mut points = if draw.from(0, 1) == 0 { vec![far; m] } else { draw.readings(m, &about) };
+    let anywhere = draw.length(0, m - 1);
+    points[draw.one_of(&[0, anywhere])] = draw.one_of(&about);
+    points[m - 1] = last;
+    let mut recording = Vec::new();
+    for _ in 0..draw.from(1, 5) {
+        let sum = draw.one_of(&[0, 1, gamma, gamma + 1]);
+        let mut window = window_of_sum(draw, &points, d as u32, sum);
+        window[m - 1] = draw.one_of(&about);
+        recording.extend(window);
+        let gap = draw.one_of(&[0, 0, 1, 3, m.min(9)]);
+        recording.extend(draw.readings(gap, &about));
+    }
+    if draw.from(0, 3) == 0 {
+        recording.fill(draw.one_of(&[last - d, last + d]));
+    }
+    (profile(points, delta, gamma), recording)
+}
+
+/// Windows that stand where the jump behind the one before lands, by its last reading: many are places, share readings with the one before or
+/// stand directly behind it, and the last is often the recording's last window. The points rise or fall by steps that tolerances allow, or do
+/// not, or repeat.
+fn windows_at_landings(draw: &mut Draw) -> Made {
+    let m = draw.one_of(&[1, 2, 3, 3, 4, 5, 9]);
+    let delta = draw.number(1, 6);
+    let d = delta as u8;
+    let step = draw.one_of(&[0, 1, d / 2, d, d + 1, 2 * d, 2 * d + 1]);
+    let period = draw.one_of(&[m, m, 2, 3]);
+    let mut points: Vec<u8> = (0..m).map(|i| 60 + step * (i % period) as u8).collect();
+    if draw.from(0, 1) == 0 {
+        points.reverse();
+    }
+    let gamma = draw.one_of(&[delta, 2 * delta, delta * m as u32, 16_320]);
+    let sought = profile(points, delta, gamma);
+    let mut recording = sought.points.clone();
+    for _ in 0..draw.from(1, 8) {
+        let last = sought.points[m - 1];
+        let a = draw.one_of(&[last - d, last - 1, last, last + 1, last + d]);
+        recording.pop();
+        recording.push(a);
+        let jump = reference::seen_reading(&sought, a).jump;
+        recording.extend(&sought.points[m - jump..]);
+    }
+    let behind = draw.one_of(&[0, 0, 1, 2]);
+    recording.extend(draw.readings(behind, &sought.points));
+    (sought, recording)
+}
+
 /// A searcher may take this many windows at a time, and then the rest one by one.
 const BLOCK: usize = 64;
 
@@ -786,7 +851,7 @@ mod coverage {
     use super::*;
     use crate::frames;
     use crate::reference::{
-        after_check, check, counter_width, counters_in_a_word, first, last_reading, places, sum, walk, words,
+        after_check, check, counter_width, counters_in_a_word, first, last_reading, places, seen_reading, sum, walk, words,
     };
     use crate::reference::{refusal_of_profile, refusal_of_search, First, Searcher, Verdict};
     use std::cmp::Ordering;
@@ -935,20 +1000,24 @@ mod coverage {
         ]
     }
 
-    /// The windows that last looks at, whether it tries them or not.
-    fn looked_at_by_last(case: &Case) -> Vec<usize> {
+    /// The windows that last looks at, whether it tries them or not, if this is its jump after a tried window, by the last reading.
+    fn looked_at(case: &Case, after: &dyn Fn(u8) -> usize) -> Vec<usize> {
         let (m, n) = (case.profile.points.len(), case.recording.len());
-        let after_check = after_check(&case.profile).jump;
         let mut looked_at = Vec::new();
         let mut s = 0;
         while s + m <= n {
             looked_at.push(s);
-            s += match last_reading(&case.profile, case.recording[s + m - 1]).jump {
-                0 => after_check,
+            let a = case.recording[s + m - 1];
+            s += match last_reading(&case.profile, a).jump {
+                0 => after(a),
                 jump => jump,
             };
         }
         looked_at
+    }
+
+    fn looked_at_by_last(case: &Case) -> Vec<usize> {
+        looked_at(case, &|a| seen_reading(&case.profile, a).jump)
     }
 
     /// Where a walk meets a 0 and would go on otherwise if 0 were near the points from which it differs by at most d.
@@ -973,6 +1042,80 @@ mod coverage {
             ("zero: maximal mismatches at it alone, all else is near", d == 255 && followed().any(at_zero_alone)),
             // 0 differs from the point before by at most d and from this one by more, which no other reading does
             ("zero: c from 0 would make a lone jump shorter", (1..m).any(|i| points[i] as u32 == d + 1 && within(i - 1))),
+        ]
+    }
+
+    /// Which readings the jump after a tried window is asked for, by an accepted profile; all 256 are asked, tried or not.
+    fn seen_situations(case: &Case) -> Vec<(&'static str, bool)> {
+        let points = &case.profile.points;
+        let (m, delta) = (points.len(), case.profile.delta);
+        let d = delta.min(case.profile.gamma);
+        let (old, last) = (after_check(&case.profile).jump, points[m - 1]);
+        let jumps: Vec<usize> = (0..=255).map(|a| seen_reading(&case.profile, a).jump).collect();
+        let jump = |a: u8| jumps[a as usize];
+        let apart = |x: u8, a: u8| x.abs_diff(a) as u32;
+        let near = |x: u8, a: u8| a != 0 && apart(x, a) <= d;
+        let before = &points[..m - 1];
+        let near_before = |a: u8| before.iter().filter(|x| near(**x, a)).count();
+        let tried = |test: &dyn Fn(u8) -> bool| m > 1 && (1..=255).any(|a| near(last, a) && test(a));
+        let other = |test: &dyn Fn(u8) -> bool| m > 1 && (1..=255).any(|a| !near(last, a) && test(a));
+        let by_delta = |a: u8| (1..m).find(|k| apart(points[m - 1 - k], a) <= delta).unwrap_or(m);
+        vec![
+            ("seen: 1 point", m == 1),
+            ("seen: 2 points, and a jump of each length", m == 2 && tried(&|a| jump(a) == 1) && tried(&|a| jump(a) == 2)),
+            ("seen: 64 points, longer than the after-check jump", m == 64 && tried(&|a| jump(a) > old)),
+            ("seen: all points alike", m > 1 && points.iter().all(|x| *x == last)),
+            ("seen: near the last point alone, the after-check jump is shorter", tried(&|a| near_before(a) == 0 && old < m)),
+            ("seen: near the last point alone, the after-check jump is 1", m > 2 && tried(&|a| near_before(a) == 0 && old == 1)),
+            ("seen: longer than the after-check jump, and not m", tried(&|a| old < jump(a) && jump(a) < m)),
+            ("seen: just the after-check jump, above 1 and not m", tried(&|a| old == jump(a) && 1 < old && old < m)),
+            ("seen: d from the last point, near an earlier one", d > 0 && tried(&|a| apart(last, a) == d && jump(a) < m)),
+            ("seen: d from the last point, near no other", d > 0 && tried(&|a| apart(last, a) == d && jump(a) == m)),
+            ("seen: d + 1 from the last point, near an earlier one", other(&|a| apart(last, a) == d + 1 && jump(a) < m)),
+            ("seen: d + 1 from the last point, near no other", other(&|a| apart(last, a) == d + 1 && jump(a) == m)),
+            ("seen: not near the last point, shorter than the after-check jump", other(&|a| jump(a) < old)),
+            ("seen: d from the point before", d > 0 && tried(&|a| apart(points[m - 2], a) == d)),
+            ("seen: d + 1 from the point before", tried(&|a| apart(points[m - 2], a) == d + 1)),
+            ("seen: near the first and the last point alone", m > 2 && tried(&|a| near_before(a) == 1 && near(points[0], a))),
+            ("seen: near the first point alone", m > 2 && other(&|a| near_before(a) == 1 && near(points[0], a))),
+            ("seen: near several earlier points, not the one before", tried(&|a| near_before(a) > 1 && jump(a) > 1)),
+            ("seen: delta above gamma would make it shorter", tried(&|a| by_delta(a) < jump(a))),
+            ("seen: 0 within d of an earlier point", before.iter().any(|x| apart(*x, 0) <= d)),
+        ]
+    }
+
+    /// Where last goes on from the windows that it tries, in an accepted case, and where the after-check jump would go.
+    fn landing_situations(case: &Case, found: &[i64]) -> Vec<(&'static str, bool)> {
+        let (m, n) = (case.profile.points.len(), case.recording.len());
+        let old = after_check(&case.profile).jump;
+        let tries = |s: usize| s + m <= n && last_reading(&case.profile, case.recording[s + m - 1]).jump == 0;
+        let is_place = |s: usize| found.contains(&(s as i64));
+        let tried: Vec<usize> = walk(Searcher::Last, &case.profile, &case.recording).iter().map(|s| *s as usize).collect();
+        let by_old: Vec<usize> = looked_at(case, &|_| old).into_iter().filter(|s| tries(*s)).collect();
+        let up_to = |walk: &[usize]| walk.iter().take_while(|s| !is_place(**s)).count();
+        let jump = |s: usize| seen_reading(&case.profile, case.recording[s + m - 1]).jump;
+        let any = |test: &dyn Fn(usize) -> bool| tried.iter().any(|s| test(*s));
+        let longer = |test: &dyn Fn(usize) -> bool| tried.iter().any(|s| jump(*s) > old && test(*s));
+        let constant = n > 0 && case.recording.iter().all(|y| *y == case.recording[0]);
+        vec![
+            ("landing: behind a place, longer than the after-check jump", longer(&|s| is_place(s))),
+            ("landing: behind what is no place, longer than the after-check jump", longer(&|s| !is_place(s))),
+            ("landing: passes a window that the after-check jump has tried", longer(&|s| tries(s + old))),
+            ("landing: fewer windows tried than by the after-check jump", tried.len() < by_old.len()),
+            ("landing: fewer tried up to the first place", !found.is_empty() && up_to(&tried) < up_to(&by_old)),
+            ("landing: fewer tried, and no place", found.is_empty() && tried.len() < by_old.len()),
+            ("landing: at a place, longer than the after-check jump", longer(&|s| is_place(s + jump(s)))),
+            ("landing: from place to place, which share readings", any(&|s| is_place(s) && jump(s) < m && is_place(s + jump(s)))),
+            (
+                "landing: from place to place, which share readings, longer than the after-check jump",
+                longer(&|s| is_place(s) && jump(s) < m && is_place(s + jump(s))),
+            ),
+            ("landing: from place to place directly behind, longer", longer(&|s| is_place(s) && jump(s) == m && is_place(s + m))),
+            ("landing: at the last window, a place", longer(&|s| s + jump(s) + m == n && is_place(s + jump(s)))),
+            ("landing: behind the last window, the after-check jump not", longer(&|s| s + jump(s) + m > n && s + old + m <= n)),
+            ("landing: constant, and a jump of 1", constant && m > 1 && any(&|s| jump(s) == 1)),
+            ("landing: constant, longer than the after-check jump", constant && longer(&|_| true)),
+            ("landing: constant, every window a place", constant && m > 1 && found.len() > 1 && any(&|_| true)),
         ]
     }
 
@@ -1356,7 +1499,9 @@ mod coverage {
             meets("reading 255", case.recording.contains(&255));
             let zeros = [spoilt_situations(&case, &found), zero_situations(&case, &found), walk_situations(&case)].concat();
             let sums = [least_situations(&case, &found), great_situations(&case, &found)].concat();
-            for (situation, yes) in [block_situations(&case, &found, &near), zeros, check_situations(&case), sums].concat() {
+            let seen = [seen_situations(&case), landing_situations(&case, &found)].concat();
+            let blocks = block_situations(&case, &found, &near);
+            for (situation, yes) in [blocks, zeros, check_situations(&case), sums, seen].concat() {
                 meets(situation, yes);
             }
         }

@@ -2,7 +2,7 @@
 //!
 //! A frame: delta and gamma in 4 bytes each, m in 2, n in 4, and the lengths of the list and of the sums in 2 each, all high byte first; then
 //! m points, then n readings.
-//! Frames follow each other to the end of the input. A case has twelve lines of output, so that line 12k + j belongs to case k.
+//! Frames follow each other to the end of the input. A case has thirteen lines of output, so that line 13k + j belongs to case k.
 
 use crate::reference::{self, First, Judged, Jump, Profile, Search, Verdict, SEARCHERS};
 use std::io::{self, Read, Write};
@@ -20,7 +20,7 @@ pub const UNTOUCHED_SUM: u16 = 60_000;
 /// at all from so many before its end.
 pub const MOST_ASKED: usize = 500;
 
-pub const LINES: usize = 12;
+pub const LINES: usize = 13;
 
 /// A case, with the lengths of the two lent lists: that of the places, and that of their sums.
 #[derive(Clone)]
@@ -81,6 +81,7 @@ pub fn answers(case: &Case) -> Vec<String> {
     let greatest_number = profile.m().min(64) + 1;
     lines.push(pairs("last_reading", (0..=255).map(|a| reference::last_reading(profile, a)).collect()));
     lines.push(pairs("next_reading", (0..=255).map(|a| reference::next_reading(profile, a)).collect()));
+    lines.push(pairs("seen_reading", (0..=255).map(|a| reference::seen_reading(profile, a)).collect()));
     lines.push(pairs("after_check", vec![reference::after_check(profile)]));
     lines.push(pairs("full", vec![reference::full(profile)]));
     lines.push(pairs("mismatch", reference::mismatches(profile, 0..=greatest_number)));

@@ -15,9 +15,9 @@ ghost use Rattle.last.specs.Walk.{lastWalkOf};
 ghost use Rattle.first.specs.First.{firstAnswer};
 ghost use Rattle.skip.specs.Walk.{skipWalk};
 ghost use Rattle.maximal.specs.Walk.{maximalWalk};
-ghost use Rattle.jumps.specs.Jumps.{lastJump, nextJump, afterJump, mismatchJump, fullJump};
+ghost use Rattle.jumps.specs.Jumps.{lastJump, nextJump, seenJump, afterJump, mismatchJump, fullJump};
 ghost use Rattle.questions.specs.Asking.{jumpAnswer, mismatchRefusal};
-ghost use Rattle.questions.specs.Judging.{checkRefusal, checkAnswer};
+ghost use Rattle.judging.specs.Judging.{checkRefusal, checkAnswer};
 
 // plain: every window is tried.
 #[no_mangle]
@@ -139,6 +139,16 @@ pub extern "C" fn jilbaroof_next_reading(points: &[u8], delta: u32, gamma: u32, 
         (nextJump (fitOf (dOf delta gamma) (now (points .entry))) (length (now (points .entry))) a) ⌝ }
 {
     questions::next_reading(points, delta, gamma, a)
+}
+
+// The seen-reading jump, after a tried window whose last reading is a.
+#[no_mangle]
+pub extern "C" fn jilbaroof_seen_reading(points: &[u8], delta: u32, gamma: u32, a: u8) -> Jump
+    ensures { λ r. ⌜
+        r ≡ jumpAnswer (questionRefusal delta gamma (now (points .entry)))
+        (seenJump (fitOf (dOf delta gamma) (now (points .entry))) (length (now (points .entry))) a) ⌝ }
+{
+    questions::seen_reading(points, delta, gamma, a)
 }
 
 // The after-check jump.

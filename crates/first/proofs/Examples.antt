@@ -2,14 +2,15 @@
 use mathlib.Core.Path.{_≡_, refl}
 use mathlib.Core.List.{List, [], _∷_}
 use Prim.Native.Nat.{ℕ}
-use Rattle.fit.specs.Reading.{near, alike}
+use Rattle.fit.specs.Reading.{near}
 use Rattle.fit.specs.Rule.{allFit, sumCost, isPlaceBy}
 use Rattle.fit.specs.Place.{isPlace}
 use Rattle.fit.specs.Listing.{upTo}
 use Rattle.fit.specs.Refusal.{orElse, ofProfile, ofTolerance, ofRecording, questionRefusal, searchRefusal}
 use Rattle.fit.specs.Answer.{soughtOf}
 use Rattle.fit.specs.Walk.{walkBy, walk}
-use Rattle.jumps.specs.Least.{greatest}
+use Rattle.jumps.specs.Least.{greatest, least}
+use Rattle.jumps.specs.Jumps.{seenJump}
 use Rattle.last.specs.Walk.{lastTries, lastNext, lastWalkOf}
 use Rattle.first.specs.First.{upToPlace, firstAnswer}
 use Rattle.first.specs.declared.Flat.{Flat}
@@ -19,7 +20,7 @@ asked delta gamma x y = firstAnswer (searchRefusal delta gamma x y) (soughtOf de
 
 pub E4-first : asked 1 2 (40 ∷ 42 ∷ 44 ∷ []) (40 ∷ 42 ∷ 44 ∷ 41 ∷ 43 ∷ 45 ∷ 39 ∷ 42 ∷ 43 ∷ 70 ∷ 41 ∷ 41 ∷ 43 ∷ 40 ∷ [])
     ≡ record { refusal = 0; found = 1; place = 0; tried = 1 }
-unfolding firstAnswer upToPlace searchRefusal questionRefusal ofProfile ofTolerance ofRecording orElse upTo isPlace isPlaceBy allFit sumCost walk walkBy lastTries lastNext greatest near alike
+unfolding firstAnswer upToPlace searchRefusal questionRefusal ofProfile ofTolerance ofRecording orElse upTo isPlace isPlaceBy allFit sumCost walk walkBy lastTries lastNext greatest seenJump least near
 E4-first = refl
 
 -- at the last window, behind one that is tried in vain; none, with one window tried and with none; refused by 1 and by 2
@@ -35,5 +36,5 @@ pub edges : asked 0 0 (5 ∷ 6 ∷ []) (6 ∷ 6 ∷ 5 ∷ 6 ∷ [])
     ∷ record { refusal = 1; found = 0; place = 0; tried = 0 }
     ∷ record { refusal = 2; found = 0; place = 0; tried = 0 }
     ∷ []
-unfolding firstAnswer upToPlace searchRefusal questionRefusal ofProfile ofTolerance ofRecording orElse upTo isPlace isPlaceBy allFit sumCost walk walkBy lastTries lastNext greatest near alike
+unfolding firstAnswer upToPlace searchRefusal questionRefusal ofProfile ofTolerance ofRecording orElse upTo isPlace isPlaceBy allFit sumCost walk walkBy lastTries lastNext greatest seenJump least near
 edges = refl

@@ -48,28 +48,29 @@ pub fn search(points: &[u8], delta: u32, gamma: u32, recording: &[u8]) -> First
         points.len(),
         gamma,
         &prepared.table,
-        prepared.after,
+        &prepared.seen,
         recording,
     )
 }
 
-// The same for m points compiled to spans, with the table of their last-reading jumps and the jump after a tried window.
+// The same for m points compiled to spans, with the tables of their last-reading jumps and of the jumps after a tried window.
 fn over_spans<'a>(
     spans: &'a [u16],
     m: usize,
     gamma: u32,
     table: &'a [u8; 256],
-    after: usize,
+    seen: &'a [u8; 256],
     recording: &[u8],
 ) -> First
-    requires { ⌜ Walkable (now spans) (now table) m gamma after (now recording) ⌝ }
+    requires { ⌜ Walkable (now spans) (now table) (now seen) m gamma (now recording) ⌝ }
     ensures { λ r. ⌜
         toldOf r ≡ firstAnswer 0 (soughtBy (ruleIn (now (spans .entry))) m gamma (now (recording .entry)))
-        (walkIn (now (spans .entry)) m after (now (recording .entry))) ⌝ }
+        (walkIn (now (spans .entry)) m (now (recording .entry))) ⌝ }
 {
     let mut tried = 0;
     let mut q = last::tried_from(table, recording, m - 1);
     while q < recording.len() {
+        let landing = last::lands_at(seen, recording, q);
         let s = q - (m - 1);
         tried += 1;
         if window::is_place(spans, m, gamma, recording, s) {
@@ -79,7 +80,7 @@ fn over_spans<'a>(
                 tried,
             };
         }
-        q = last::tried_after(table, after, recording, q);
+        q = last::tried_from(table, recording, landing);
     }
     First {
         refusal: 0,

@@ -6,7 +6,7 @@ use mathlib.Core.List.{List, [], _∷_}
 use Rattle.fit.specs.Reading.{near, alike}
 use Rattle.fit.specs.Place.{fitOf}
 use Rattle.jumps.specs.Least.{greatest, least, allBelow, someBelow}
-use Rattle.jumps.specs.Jumps.{lastJump, nextJump, afterJump, lonely, loneAt, loneJump, earlier, mismatchJump, fullAt, fullJump}
+use Rattle.jumps.specs.Jumps.{lastJump, nextJump, seenJump, afterJump, lonely, loneAt, loneJump, earlier, mismatchJump, fullAt, fullJump}
 use Rattle.jumps.specs.Demand.{MismatchedAt}
 
 abbrev two : List ℕ
@@ -20,6 +20,15 @@ last-edges = (refl, refl, refl, refl)
 pub next-edges : (nextJump (fitOf 1 two) 2 21 ≡ 1) × (nextJump (fitOf 1 two) 2 15 ≡ 3)
 unfolding greatest near
 next-edges = (refl, refl)
+
+-- "the least k of 1 or more with k = m or x[m-k] near a" (#108). Of 10, 20, 10, 20 the reading 21 is near points 2 and 4, so k = 2, as the
+-- after-check jump says; 9 is near points 1 and 3, not near the last: k = 1 and not 3; 15 is near none, and so is 0, which differs from all
+-- points by at most d; of one point k = 1; of 42 and 44 the reading 45 is near the last alone: k = m, where the after-check jump is 1
+pub seen-edges : (seenJump (fitOf 1 (10 ∷ 20 ∷ 10 ∷ 20 ∷ [])) 4 21 ≡ 2) × (seenJump (fitOf 1 (10 ∷ 20 ∷ 10 ∷ 20 ∷ [])) 4 9 ≡ 1)
+    × (seenJump (fitOf 1 two) 2 15 ≡ 2) × (seenJump (fitOf 9 (1 ∷ 2 ∷ 3 ∷ [])) 3 0 ≡ 3) × (seenJump (fitOf 1 (7 ∷ [])) 1 7 ≡ 1)
+    × (seenJump (fitOf 1 (42 ∷ 44 ∷ [])) 2 45 ≡ 2)
+unfolding seenJump least near
+seen-edges = (refl, refl, refl, refl, refl, refl)
 
 -- for a reading of 0, "m and m + 1" (#103), though it differs from each point by at most d
 pub zero-edges : (lastJump (fitOf 9 (1 ∷ 2 ∷ [])) 2 0 ≡ 2) × (nextJump (fitOf 9 (1 ∷ 2 ∷ [])) 2 0 ≡ 3)

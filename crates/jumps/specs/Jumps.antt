@@ -1,4 +1,5 @@
--- The jump rules of document 01. Points count from 0: its x[i] is point i - 1 here, and its "p - k < 1" is p < k. Assumes nothing.
+-- The jump rules of document 01, and of document 02 the one of #108. Points count from 0: the documents' x[i] is point i - 1 here, and document
+-- 01's "p - k < 1" is p < k. Assumes nothing.
 use Prim.Native.Nat.{ℕ, _+_, _-_, _*_}
 use mathlib.Core.Bool.{Bool, not, _&&_, _||_}
 use mathlib.Core.List.{List}
@@ -7,7 +8,7 @@ use lib.Dec.{ltb, leb, eqb}
 use Rattle.fit.specs.Reading.{lowest, highest, alike, near}
 use Rattle.jumps.specs.Least.{greatest, least, allBelow, someBelow}
 
--- ---- the two rules that look at one reading a, for points of any kind: `near i a` says that a is near point i, whatever that is for its kind
+-- ---- the three rules that look at one reading a, for points of any kind: `near i a` says that a is near point i, whatever that is for its kind
 -- "m - i for the greatest i with x[i] near a; m if there is none"
 abbrev pub lastJump : (ℕ → ℕ → Bool) → ℕ → ℕ → ℕ
 lastJump near m a = m - greatest (λ i. near i a) m
@@ -15,6 +16,11 @@ lastJump near m a = m - greatest (λ i. near i a) m
 -- "m + 1 - i for the greatest i with x[i] near a; m + 1 if none"
 abbrev pub nextJump : (ℕ → ℕ → Bool) → ℕ → ℕ → ℕ
 nextJump near m a = m + 1 - greatest (λ i. near i a) m
+
+-- "the least k of 1 or more with k = m or x[m-k] near a" (document 02, #108): m where none from 1 to m - 1 is one
+unfoldable pub seenJump : (ℕ → ℕ → Bool) → ℕ → ℕ → ℕ
+unfolding least
+seenJump near m a = least (λ k. near (m - 1 - k) a) 1 (m - 1)
 
 -- "some reading c .. is near" one point "and not near" the other, where "c runs from 1 to 255" (#103)
 unfoldable pub lonely : ℕ → ℕ → ℕ → Bool

@@ -1,18 +1,18 @@
 // Last's walk, for all that go along it: what it goes by, and which window it tries next.
 ghost use mathlib.Core.Path.{_≡_};
-ghost use Prim.Native.Nat.{_+_, _≤_, _<_};
-ghost use lib.ListN.{length};
-ghost use Rattle.fit.specs.Refusal.{maxPoints, searchRefusal};
+ghost use Prim.Native.Nat.{_+_, _<_};
+ghost use lib.ListN.{length, getD};
+ghost use Rattle.fit.specs.Refusal.{searchRefusal};
 ghost use Rattle.last.specs.Walk.{seek};
 ghost use Rattle.last.specs.Prepared.{PreparedBy};
 
-// What the walk goes by, built once per search: the spans of the profile, the last-reading jump of each reading, and the jump after a
+// What the walk goes by, built once per search: the spans of the profile, and for each reading its last-reading jump and its jump after a
 // tried window. Refused, the number and zeros.
 pub struct Prepared {
     pub refusal: u32,
     pub spans: [u16; 256],
     pub table: [u8; 256],
-    pub after: usize,
+    pub seen: [u8; 256],
 }
 
 pub fn prepare(points: &[u8], delta: u32, gamma: u32, recording: &[u8]) -> Prepared
@@ -25,19 +25,19 @@ pub fn prepare(points: &[u8], delta: u32, gamma: u32, recording: &[u8]) -> Prepa
             refusal: checked.refusal,
             spans: [0; 256],
             table: [0; 256],
-            after: 0,
+            seen: [0; 256],
         };
     }
     let tolerance = checked.tolerance;
     let d = tolerance.d();
     let spans = ordinary::spans_of(checked.profile, d);
-    let after = tables::after_jump(points, d);
-    let table = tables::last_table(&spans, points.len());
+    let seen = tables::seen_table(&spans, points.len());
+    let table = tables::last_table(&spans, points.len(), &seen);
     Prepared {
         refusal: 0,
         spans,
         table,
-        after,
+        seen,
     }
 }
 
@@ -57,10 +57,11 @@ pub fn tried_from(table: &[u8; 256], recording: &[u8], from: usize) -> usize
     q
 }
 
-// The same after a tried window whose last reading stands at q: at q + after or behind it.
-pub fn tried_after(table: &[u8; 256], after: usize, recording: &[u8], q: usize) -> usize
-    requires { ⌜ (q < length (now recording)) × (after ≤ maxPoints) ⌝ }
-    ensures { λ r. ⌜ r ≡ seek (now (table .entry)) (now (recording .entry)) (q + after) ⌝ }
+// Where the jump leads after a tried window whose last reading stands at q. Asked before that window is tried, its reads need not wait for the
+// try to end.
+pub fn lands_at(seen: &[u8; 256], recording: &[u8], q: usize) -> usize
+    requires { ⌜ q < length (now recording) ⌝ }
+    ensures { λ r. ⌜ r ≡ q + getD (now (seen .entry)) (getD (now (recording .entry)) q 0) 0 ⌝ }
 {
-    tried_from(table, recording, q + after)
+    q + tables::jump_at(seen, recording[q])
 }

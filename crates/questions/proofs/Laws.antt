@@ -1,3 +1,2 @@
 pub mod Askings
 pub mod Replies
-pub mod Judgings

@@ -1,13 +1,12 @@
-// The questions: each tests what is turned away, and then asks its rule for a jump; and the one about a window, which asks the window check.
-mod judging;
-
+// The questions: each tests what is turned away, and then asks its rule for a jump. The one about a window stands in `judging`, and is passed on.
 ghost use mathlib.Core.Path.{_≡_};
 ghost use Prim.Native.Nat.{_-_};
 ghost use lib.ListN.{length};
 ghost use Rattle.fit.specs.Place.{fitOf, dOf};
 ghost use Rattle.fit.specs.Refusal.{questionRefusal};
-ghost use Rattle.jumps.specs.Jumps.{lastJump, nextJump, afterJump, mismatchJump, fullJump};
-ghost use Rattle.questions.specs.Asking.{jumpAnswer, ofPoint, mismatchRefusal};
+ghost use Rattle.fit.specs.Spans.{spansOf};
+ghost use Rattle.jumps.specs.Jumps.{lastJump, nextJump, seenJump, afterJump, mismatchJump, fullJump};
+ghost use Rattle.questions.specs.Asking.{jumpAnswer, compiledAnswer, ofPoint, mismatchRefusal};
 pub use judging::FlatVerdict;
 pub use judging::Judged;
 pub use judging::check;
@@ -30,22 +29,44 @@ fn refused(number: u32) -> Jump
     }
 }
 
+// What the questions about one reading go by: the spans of the profile. Refused, the number and zeros.
+struct Compiled {
+    refusal: u32,
+    spans: [u16; 256],
+}
+
+fn compile(points: &[u8], delta: u32, gamma: u32) -> Compiled
+    ensures { λ r. ⌜
+        r ≡ compiledAnswer (questionRefusal delta gamma (now (points .entry))) (spansOf (dOf delta gamma) (now (points .entry))) ⌝ }
+{
+    let checked = fit::checked_question(points, delta, gamma);
+    if checked.refusal != 0 {
+        return Compiled {
+            refusal: checked.refusal,
+            spans: [0; 256],
+        };
+    }
+    let tolerance = checked.tolerance;
+    let d = tolerance.d();
+    Compiled {
+        refusal: 0,
+        spans: ordinary::spans_of(checked.profile, d),
+    }
+}
+
 // The last-reading jump for reading a.
 pub fn last_reading(points: &[u8], delta: u32, gamma: u32, a: u8) -> Jump
     ensures { λ r. ⌜
         r ≡ jumpAnswer (questionRefusal delta gamma (now (points .entry)))
         (lastJump (fitOf (dOf delta gamma) (now (points .entry))) (length (now (points .entry))) a) ⌝ }
 {
-    let checked = fit::checked_question(points, delta, gamma);
-    if checked.refusal != 0 {
-        return refused(checked.refusal);
+    let compiled = compile(points, delta, gamma);
+    if compiled.refusal != 0 {
+        return refused(compiled.refusal);
     }
-    let tolerance = checked.tolerance;
-    let d = tolerance.d();
-    let spans = ordinary::spans_of(checked.profile, d);
     Jump {
         refusal: 0,
-        jump: tables::last_jump(&spans, points.len(), a),
+        jump: tables::last_jump(&compiled.spans, points.len(), a),
     }
 }
 
@@ -55,16 +76,29 @@ pub fn next_reading(points: &[u8], delta: u32, gamma: u32, a: u8) -> Jump
         r ≡ jumpAnswer (questionRefusal delta gamma (now (points .entry)))
         (nextJump (fitOf (dOf delta gamma) (now (points .entry))) (length (now (points .entry))) a) ⌝ }
 {
-    let checked = fit::checked_question(points, delta, gamma);
-    if checked.refusal != 0 {
-        return refused(checked.refusal);
+    let compiled = compile(points, delta, gamma);
+    if compiled.refusal != 0 {
+        return refused(compiled.refusal);
     }
-    let tolerance = checked.tolerance;
-    let d = tolerance.d();
-    let spans = ordinary::spans_of(checked.profile, d);
     Jump {
         refusal: 0,
-        jump: tables::next_jump(&spans, points.len(), a),
+        jump: tables::next_jump(&compiled.spans, points.len(), a),
+    }
+}
+
+// The jump after a tried window whose last reading is a: the seen-reading jump.
+pub fn seen_reading(points: &[u8], delta: u32, gamma: u32, a: u8) -> Jump
+    ensures { λ r. ⌜
+        r ≡ jumpAnswer (questionRefusal delta gamma (now (points .entry)))
+        (seenJump (fitOf (dOf delta gamma) (now (points .entry))) (length (now (points .entry))) a) ⌝ }
+{
+    let compiled = compile(points, delta, gamma);
+    if compiled.refusal != 0 {
+        return refused(compiled.refusal);
+    }
+    Jump {
+        refusal: 0,
+        jump: tables::seen_jump(&compiled.spans, points.len(), a),
     }
 }
 

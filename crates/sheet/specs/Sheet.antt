@@ -69,7 +69,7 @@ sheet =
     ∷ places-are (1 ∷ []) (255 ∷ []) 254 254 (0 ∷ [])
     ∷ places-are (1 ∷ []) (255 ∷ []) 253 254 []
     ∷ places-are P L 1 2 (0 ∷ 6 ∷ [])
-    ∷ tried-are P L 1 2 12 5 6 5
+    ∷ tried-are P L 1 2 12 4 6 5
     ∷ places-are P L 1 3 (0 ∷ 3 ∷ 6 ∷ 10 ∷ [])
     ∷ places-are P L 1 1 (0 ∷ [])
     ∷ places-are P L 9 2 (0 ∷ 6 ∷ [])

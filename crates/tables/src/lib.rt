@@ -10,3 +10,5 @@ pub use single::last_jump;
 pub use single::last_table;
 pub use single::next_jump;
 pub use single::next_table;
+pub use single::seen_jump;
+pub use single::seen_table;

@@ -6,7 +6,7 @@ ghost use Rattle.fit.specs.Reading.{highest, alike};
 ghost use Rattle.fit.specs.Refusal.{maxPoints};
 ghost use Rattle.fit.specs.Spans.{ruleIn};
 ghost use Rattle.jumps.specs.Least.{greatest};
-ghost use Rattle.jumps.specs.Jumps.{lastJump, nextJump, afterJump};
+ghost use Rattle.jumps.specs.Jumps.{lastJump, nextJump, seenJump, afterJump};
 ghost use Rattle.tables.specs.Holding.{Holds, Usable};
 
 // Document 01's number of the greatest of m points that reading a suits, that is, is near; 0 if there is none.
@@ -40,6 +40,14 @@ pub fn next_jump(spans: &[u16], m: usize, a: u8) -> usize
     m + 1 - greatest_near(spans, m, a)
 }
 
+// The jump after a tried window whose last reading is a.
+pub fn seen_jump(spans: &[u16], m: usize, a: u8) -> usize
+    requires { ⌜ (4 * m ≤ length (now spans)) × (1 ≤ m) ⌝ }
+    ensures { λ r. ⌜ (r ≡ seenJump (ruleIn (now (spans .entry)) .fit) m a) × (r ≤ m) ⌝ }
+{
+    m - greatest_near(spans, m - 1, a)
+}
+
 // For each reading, `top` less document 01's number of the greatest point that it suits.
 fn jump_table(spans: &[u16], m: usize, top: usize) -> [u8; 256]
     requires { ⌜ (4 * m ≤ length (now spans)) × (m ≤ top) × (top ≤ maxPoints + 1) ⌝ }
@@ -62,12 +70,37 @@ pub fn jump_at(table: &[u8; 256], a: u8) -> usize
     reading::index(table[reading::index(a)])
 }
 
-// The last-reading jumps of all readings.
-pub fn last_table(spans: &[u16], m: usize) -> [u8; 256]
-    requires { ⌜ (4 * m ≤ length (now spans)) × (m ≤ maxPoints) ⌝ }
+// The jumps after a tried window, for all last readings.
+pub fn seen_table(spans: &[u16], m: usize) -> [u8; 256]
+    requires { ⌜ (4 * m ≤ length (now spans)) × (1 ≤ m) × (m ≤ maxPoints) ⌝ }
+    ensures { λ r. ⌜ Holds (seenJump (ruleIn (now (spans .entry)) .fit) m) 256 256 r ⌝ }
+{
+    jump_table(spans, m - 1, m)
+}
+
+// The last-reading jump for reading a, where `seen` is its jump after a tried window: they differ where a is near the last point, and only there.
+fn last_of(spans: &[u16], m: usize, a: u8, seen: u8) -> u8
+    requires { ⌜ (seen ≡ seenJump (ruleIn (now spans) .fit) m a) × (4 * m ≤ length (now spans)) × (1 ≤ m) ⌝ }
+    ensures { λ r. ⌜ r ≡ lastJump (ruleIn (now (spans .entry)) .fit) m a ⌝ }
+{
+    if window::suits(spans, m - 1, a) {
+        return 0;
+    }
+    seen
+}
+
+// The last-reading jumps of all readings, from their jumps after a tried window.
+pub fn last_table<'a>(spans: &'a [u16], m: usize, seen: &'a [u8; 256]) -> [u8; 256]
+    requires { ⌜ Holds (seenJump (ruleIn (now spans) .fit) m) 256 256 (now seen) × (4 * m ≤ length (now spans)) × (1 ≤ m) ⌝ }
     ensures { λ r. ⌜ Holds (lastJump (ruleIn (now (spans .entry)) .fit) m) 256 256 r ⌝ }
 {
-    jump_table(spans, m, m)
+    let mut table = [0u8; 256];
+    let mut at: usize = 0;
+    while at < 256 {
+        table[at] = last_of(spans, m, at as u8, seen[at]);
+        at += 1;
+    }
+    table
 }
 
 // The next-reading jumps of all readings.

@@ -5,6 +5,7 @@ use questions::Jump;
 enum Question {
     LastReading,
     NextReading,
+    SeenReading,
     AfterCheck,
     Full,
     Mismatch,
@@ -21,6 +22,7 @@ pub(crate) fn questions(
     let count = point_numbers(points);
     let at = line(page, at, Question::LastReading, points, delta, gamma, 256);
     let at = line(page, at, Question::NextReading, points, delta, gamma, 256);
+    let at = line(page, at, Question::SeenReading, points, delta, gamma, 256);
     let at = line(page, at, Question::AfterCheck, points, delta, gamma, 1);
     let at = line(page, at, Question::Full, points, delta, gamma, 1);
     line(page, at, Question::Mismatch, points, delta, gamma, count)
@@ -60,6 +62,7 @@ fn name(page: &mut [u8], at: usize, question: Question) -> usize {
     match question {
         Question::LastReading => page::put_text(page, at, b"last_reading"),
         Question::NextReading => page::put_text(page, at, b"next_reading"),
+        Question::SeenReading => page::put_text(page, at, b"seen_reading"),
         Question::AfterCheck => page::put_text(page, at, b"after_check"),
         Question::Full => page::put_text(page, at, b"full"),
         Question::Mismatch => page::put_text(page, at, b"mismatch"),
@@ -70,6 +73,7 @@ fn ask(question: Question, points: &[u8], delta: u32, gamma: u32, k: usize) -> J
     match question {
         Question::LastReading => questions::last_reading(points, delta, gamma, reading(k)),
         Question::NextReading => questions::next_reading(points, delta, gamma, reading(k)),
+        Question::SeenReading => questions::seen_reading(points, delta, gamma, reading(k)),
         Question::AfterCheck => questions::after_check(points, delta, gamma),
         Question::Full => questions::full(points, delta, gamma),
         Question::Mismatch => questions::mismatch(points, delta, gamma, k),

@@ -128,7 +128,7 @@ first-refused num k t walk e h = rw e (refused-by num t walk (λ z. h (e ∙ z))
 
 -- what it answers over the spans is its answer
 pub going-first : (delta gamma : ℕ) (x y : List ℕ) {p : Prepared} {told : Flat} → Going delta gamma x y p
-    → told ≡ firstAnswer 0 (soughtBy (ruleIn (p .spans)) (length x) gamma y) (walkIn (p .spans) (length x) (p .after) y)
+    → told ≡ firstAnswer 0 (soughtBy (ruleIn (p .spans)) (length x) gamma y) (walkIn (p .spans) (length x) y)
     → told ≡ firstAnswer (searchRefusal delta gamma x y) (soughtOf delta gamma x y) (lastWalkOf delta gamma x y)
 going-first delta gamma x y {p} at e =
     rw (none-exactly delta gamma x y .1 (at .ok), ← at .walk, ← compiled-sought delta gamma x y (p .spans) (at .made) (at .ok)) e

@@ -8,20 +8,20 @@ use native.Mathlib.Decide.{ℕ-discrete}
 use native.Mathlib.Omega.{arith}
 use lib.ListN.{length, getD}
 use Rattle.fit.specs.Reading.{highest, diff, alike, near}
-use Rattle.fit.specs.Rule.{Rule, readingAt, nearBy}
+use Rattle.fit.specs.Rule.{Rule, nearBy}
 use Rattle.fit.specs.Place.{fitOf, ruleOf, Place, dOf}
 use Rattle.fit.specs.Refusal.{Asked}
 use Rattle.fit.proofs.Laws.Bools.{either, not-both}
 use Rattle.fit.proofs.Laws.Readings.{near-le, near-self, zero-far}
 use Rattle.fit.proofs.Laws.Places.{place-by, by-place, near-derived}
-use Rattle.jumps.specs.Jumps.{lastJump, nextJump, afterJump, lonely, earlier, mismatchAt, mismatchJump, fullAt, fullJump}
-use Rattle.jumps.specs.Demand.{Readings, Passed, NotTooLong, Reaches, Occurs, LastIs, NextIs, LastNear, MismatchedAt, Mismatch, AllNear}
+use Rattle.jumps.specs.Jumps.{lastJump, nextJump, seenJump, afterJump, lonely, earlier, mismatchAt, mismatchJump, fullAt, fullJump}
+use Rattle.jumps.specs.Demand.{Readings, NotTooLong, Reaches, Occurs, LastIs, NextIs, LastNear, MismatchedAt, Mismatch, AllNear}
 use Rattle.jumps.proofs.Laws.Nears.{near-both, both-near, lonely-is, is-lonely}
 use Rattle.jumps.proofs.Laws.Conditions.{lone-is, is-lone, not-before-itself, agrees-is, is-agreed, mismatch-lone, mismatch-agrees, is-mismatch, full-is, is-full}
 use Rattle.jumps.proofs.Laws.Frame.{Home, Some, Meet, PlaceBy, occurs, long-as, reaches-as}
 use Rattle.jumps.proofs.Laws.Single.{single-passes, single-short}
 use Rattle.jumps.proofs.Laws.Several.{Meets, several-long, several-short}
-use Rattle.jumps.proofs.Laws.OneReading.{last-same, next-same, last-by-not-too-long, next-by-not-too-long, last-by-reaches, next-by-reaches}
+use Rattle.jumps.proofs.Laws.OneReading.{last-same, next-same, seen-same, last-by-not-too-long, next-by-not-too-long, seen-by-not-too-long, last-by-reaches, next-by-reaches, seen-by-reaches}
 
 -- an accepted profile: its points are readings
 module _ (delta gamma : ℕ) (x : List ℕ) (asked : Asked delta gamma x) where
@@ -66,17 +66,17 @@ module _ (delta gamma : ℕ) (x : List ℕ) (asked : Asked delta gamma x) where
   next-reading-not-too-long a =
       long (NextIs m a) 1 _ _ (next-same (nearBy rule gamma) (fitOf d x) m a (same a)) (next-by-not-too-long rule m gamma (asked .some) a)
 
+  pub seen-reading-not-too-long : (a : ℕ) → NotTooLong (Place delta gamma x) (LastIs (length x) a) 1 (seenJump (fitOf (dOf delta gamma) x) (length x) a)
+  seen-reading-not-too-long a =
+      long (LastIs m a) 1 _ _ (seen-same (nearBy rule gamma) (fitOf d x) m a (same a) (asked .some)) (seen-by-not-too-long rule m gamma (asked .some) a)
+
   alike-last : (i c : ℕ) → i < m - 1 → near d (at last) c ≡ true → nearBy rule gamma i c ≡ true → alike (2 * d) (at i) (at last) ≡ true
   alike-last i c l e n = both-near d (at i) (at last) c (near-of i c n) e
 
-  -- whatever values the recording has
-  pub after-check-passes : (y : List ℕ) (s t : ℕ) → LastNear (dOf delta gamma) x y s → Passed 1 (afterJump (dOf delta gamma) x) s t → Place delta gamma x y t → ⊥
-  after-check-passes y s t e p place =
+  pub after-check-not-too-long : NotTooLong (Place delta gamma x) (LastNear (dOf delta gamma) x) 1 (afterJump (dOf delta gamma) x)
+  after-check-not-too-long y s t rd e p place =
       single-passes rule m gamma last m (m - 1) 1 m (λ c. near d (at last) c ≡ true) (λ i. alike (2 * d) (at i) (at last))
       (omega (arith, asked .some)) (omega arith) (omega (arith, asked .some)) (omega (arith, asked .some)) alike-last y s t e p (place-by delta gamma x y t place)
-
-  pub after-check-not-too-long : NotTooLong (Place delta gamma x) (LastNear (dOf delta gamma) x) 1 (afterJump (dOf delta gamma) x)
-  after-check-not-too-long y s t rd = after-check-passes y s t
 
   full-sound : (k : ℕ) → Meets rule m gamma (asked .some) (λ q c. near d (at q) c ≡ true) (fullAt d x) k → fullAt d x k ≡ true
   full-sound k ms = is-full d x k (λ i l.
@@ -134,6 +134,10 @@ module _ (delta gamma : ℕ) (x : List ℕ) (asked : Asked delta gamma x) where
     pub next-reading-reaches : (a : ℕ) → a ≤ highest → Reaches (Place delta gamma x) (NextIs (length x) a) (nextJump (fitOf (dOf delta gamma) x) (length x) a)
     next-reading-reaches a h =
         reaches (NextIs m a) _ _ (next-same (nearBy rule gamma) (fitOf d x) m a (same a)) (next-by-reaches rule m gamma (asked .some) a homes (asked .few) h)
+
+    pub seen-reading-reaches : (a : ℕ) → a ≤ highest → Reaches (Place delta gamma x) (LastIs (length x) a) (seenJump (fitOf (dOf delta gamma) x) (length x) a)
+    seen-reading-reaches a h =
+        reaches (LastIs m a) _ _ (seen-same (nearBy rule gamma) (fitOf d x) m a (same a) (asked .some)) (seen-by-reaches rule m gamma (asked .some) a homes (asked .few) h)
 
     -- a reading near point q that may stand at point i
     meet-both : (q i : ℕ) → q < m → i < m → alike (2 * d) (at i) (at q) ≡ true → Meet rule gamma i (λ c. near d (at q) c ≡ true)

@@ -2,22 +2,32 @@
 -- that a walk takes it of. Assumes nothing.
 use Prim.Native.Nat.{ℕ, _*_, _≤_, _<_, max}
 use mathlib.Core.Path.{_≡_, sym, subst}
-use mathlib.Core.Bool.{true}
 use mathlib.Core.Logic.{_↔_}
 use mathlib.Core.List.{List}
 use native.Mathlib.Omega.{arith}
-use lib.ListN.{length, getD}
+use lib.ListN.{length}
 use Rattle.fit.specs.Reading.{highest}
+use Rattle.fit.specs.Rule.{Rule, nearBy}
 use Rattle.fit.specs.Place.{fitOf, Place, dOf}
-use Rattle.fit.specs.Refusal.{Asked}
-use Rattle.jumps.specs.Jumps.{lastJump, nextJump, afterJump, mismatchJump, fullJump}
+use Rattle.fit.specs.Refusal.{maxPoints, Asked}
+use Rattle.jumps.specs.Jumps.{lastJump, nextJump, seenJump, afterJump, mismatchJump, fullJump}
 use Rattle.jumps.specs.Demand.{Readings, NotTooLong, Halves, LastIs, NextIs, LastNear, Mismatch, AllNear}
-use Rattle.jumps.proofs.Laws.Frame.{no-second-jump, larger-not-too-long}
-use Rattle.jumps.proofs.Laws.Demands.{last-reading-not-too-long, next-reading-not-too-long, after-check-not-too-long, mismatch-not-too-long, full-not-too-long, last-reading-reaches, next-reading-reaches, after-check-reaches, mismatch-reaches, full-reaches}
-use Rattle.jumps.proofs.Laws.Sizes.{next-jump-ge, after-jump-ge, mismatch-jump-ge, full-jump-ge}
+use Rattle.jumps.proofs.Laws.Frame.{Home, PlaceBy, no-second-jump, larger-not-too-long}
+use Rattle.jumps.proofs.Laws.OneReading.{seen-by-not-too-long, seen-by-reaches}
+use Rattle.jumps.proofs.Laws.Demands.{last-reading-not-too-long, next-reading-not-too-long, seen-reading-not-too-long, after-check-not-too-long, mismatch-not-too-long, full-not-too-long, last-reading-reaches, next-reading-reaches, seen-reading-reaches, after-check-reaches, mismatch-reaches, full-reaches}
+use Rattle.jumps.proofs.Laws.Sizes.{next-jump-ge, seen-jump-ge, after-jump-ge, mismatch-jump-ge, full-jump-ge}
 
 exactly : (IsPlace E : List ℕ → ℕ → Type 0) (from j k : ℕ) → Halves IsPlace E from j → Halves IsPlace E from k ↔ (k ≡ j)
 exactly IsPlace E from j k has = (λ other. no-second-jump IsPlace E from k j other has, λ e. subst (Halves IsPlace E from) (sym e) has)
+
+-- the jump of a reading that was seen, for points of any kind
+pub seen-by-exactly : (r : Rule) (m gamma a k : ℕ) → 1 ≤ m → m ≤ maxPoints → Home r m → a ≤ highest
+    → Halves (PlaceBy r m gamma) (LastIs m a) 1 k ↔ (k ≡ seenJump (nearBy r gamma) m a)
+seen-by-exactly r m gamma a k some few home byte = exactly _ _ 1 _ k (record {
+  onward = seen-jump-ge (nearBy r gamma) m a some;
+  not-too-long = seen-by-not-too-long r m gamma some a;
+  reaches = seen-by-reaches r m gamma some a home few byte;
+})
 
 module _ (delta gamma : ℕ) (x : List ℕ) (asked : Asked delta gamma x) where
   -- k has both halves, on this evidence, of a rule that passes windows from s + `from` on
@@ -38,6 +48,13 @@ module _ (delta gamma : ℕ) (x : List ℕ) (asked : Asked delta gamma x) where
       onward = next-jump-ge (fitOf (dOf delta gamma) x) (length x) a;
       not-too-long = next-reading-not-too-long delta gamma x asked a;
       reaches = next-reading-reaches delta gamma x asked bytes a h;
+    })
+
+    pub seen-reading-exactly : (a : ℕ) → a ≤ highest → Both (LastIs (length x) a) 1 k ↔ (k ≡ seenJump (fitOf (dOf delta gamma) x) (length x) a)
+    seen-reading-exactly a h = exactly _ _ 1 _ k (record {
+      onward = seen-jump-ge (fitOf (dOf delta gamma) x) (length x) a (asked .some);
+      not-too-long = seen-reading-not-too-long delta gamma x asked a;
+      reaches = seen-reading-reaches delta gamma x asked bytes a h;
     })
 
     pub after-check-exactly : Both (LastNear (dOf delta gamma) x) 1 k ↔ (k ≡ afterJump (dOf delta gamma) x)

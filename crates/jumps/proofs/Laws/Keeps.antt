@@ -10,11 +10,11 @@ use Rattle.fit.specs.Rule.{Rule, readingAt, isPlaceBy, nearBy}
 use Rattle.fit.specs.Place.{Place, dOf}
 use Rattle.fit.specs.Refusal.{Asked}
 use Rattle.fit.proofs.Laws.Bools.{and-left}
-use Rattle.jumps.specs.Jumps.{lastJump, nextJump, afterJump, earlier, mismatchJump, fullJump}
-use Rattle.jumps.specs.Demand.{Readings, LastIs, NextIs, LastNear, Mismatch, AllNear}
+use Rattle.jumps.specs.Jumps.{lastJump, nextJump, seenJump, earlier, mismatchJump, fullJump}
+use Rattle.jumps.specs.Demand.{Readings, LastIs, NextIs, Mismatch, AllNear}
 use Rattle.jumps.proofs.Laws.Frame.{not-beyond}
-use Rattle.jumps.proofs.Laws.OneReading.{last-by-passes, next-by-passes}
-use Rattle.jumps.proofs.Laws.Demands.{after-check-passes, mismatch-not-too-long, full-not-too-long}
+use Rattle.jumps.proofs.Laws.OneReading.{last-by-passes, next-by-passes, seen-by-passes}
+use Rattle.jumps.proofs.Laws.Demands.{mismatch-not-too-long, full-not-too-long}
 
 -- a recording of bytes is one of readings
 pub readings-of : (y : List ℕ) → ((i : ℕ) → getD y i 0 < 256) → Readings y
@@ -29,9 +29,6 @@ module _ (y : List ℕ) (s m : ℕ) where
   next-is inside = record { inside = omega arith; each = λ q l e. ap (λ (j : ℕ). getD y (s + j) 0) e }
 
 module _ (d : ℕ) (x y : List ℕ) (s : ℕ) (inside : s + length x ≤ length y) where
-  pub last-near : near d (getD x (length x - 1) 0) (readingAt y s (length x - 1)) ≡ true → LastNear d x y s
-  last-near n = record { inside = inside; each = λ q l e. ap (λ (j : ℕ). near d (getD x (length x - 1) 0) (getD y (s + j) 0)) e ∙ n }
-
   pub mismatch-seen : (p : ℕ) → ((q : ℕ) → q < length x → earlier d x q p ≡ true → near d (getD x q 0) (readingAt y s q) ≡ true)
       → near d (getD x p 0) (readingAt y s p) ≡ false → Mismatch d x p y s
   mismatch-seen p before far = record {
@@ -55,11 +52,12 @@ module _ (r : Rule) (m gamma : ℕ) (some : 1 ≤ m) (y : List ℕ) (s t : ℕ) 
   next-keeps inside h =
       not-beyond 1 _ s t (λ p. next-by-passes r m gamma some (readingAt y s m) (r .fit) suits y s t (next-is y s m inside) p place) (omega arith)
 
+  pub seen-keeps : s + m ≤ length y → s < t → s + seenJump (r .fit) m (readingAt y s (m - 1)) ≤ t
+  seen-keeps inside h =
+      not-beyond 1 _ s t (λ p. seen-by-passes r m gamma some (readingAt y s (m - 1)) (r .fit) suits y s t (last-is y s m some inside) p place) (omega arith)
+
 -- for ordinary profiles
 module _ (delta gamma : ℕ) (x y : List ℕ) (asked : Asked delta gamma x) (s t : ℕ) (place : Place delta gamma x y t) (later : s < t) where
-  pub after-keeps : LastNear (dOf delta gamma) x y s → s + afterJump (dOf delta gamma) x ≤ t
-  after-keeps e = not-beyond 1 _ s t (λ p. after-check-passes delta gamma x asked y s t e p place) (omega arith)
-
   pub full-keeps : Readings y → AllNear (dOf delta gamma) x y s → s + fullJump (dOf delta gamma) x ≤ t
   full-keeps rd e = not-beyond 1 _ s t (λ p. full-not-too-long delta gamma x asked y s t rd e p place) (omega arith)
 

@@ -6,7 +6,7 @@ use mathlib.Core.Logic.{⊎-elim}
 use native.Mathlib.Nat.{le-refl, not-suc-le-zero, eq-or-lt-of-le, le-of-suc-le-suc}
 use native.Mathlib.Numerals.{add-one}
 use native.Mathlib.Omega.{arith}
-use Rattle.fit.proofs.Laws.Bools.{and-left, and-right, and-both, or-cases, or-left, or-right, either, is-false, not-both}
+use Rattle.fit.proofs.Laws.Bools.{and-left, and-right, and-both, or-cases, or-left, or-right, either, is-false, not-both, at-most}
 use Rattle.jumps.specs.Least.{greatest, least, allBelow, someBelow}
 
 -- ---- the greatest point
@@ -82,6 +82,17 @@ unfolding greatest
 greatest-same ok ok′ zero h = refl
 greatest-same ok ok′ (suc n) h = rw (h n (omega arith), greatest-same ok ok′ n (λ i l. h i (omega arith)))
 
+-- and a test that passes more has no lower one
+pub greatest-mono : (ok ok′ : ℕ → Bool) (n : ℕ) → ((i : ℕ) → i < n → ok i ≡ true → ok′ i ≡ true) → greatest ok n ≤ greatest ok′ n
+greatest-mono ok ok′ n h = by-number (greatest ok n) refl
+  where
+    by-number : (g : ℕ) → greatest ok n ≡ g → g ≤ greatest ok′ n
+    by-number zero e = omega arith
+    by-number (suc i) e =
+        at-most (suc i) (greatest ok′ n) (λ l.
+        let below : i < n = omega (arith, greatest-le ok n) in
+        not-both (h i below (greatest-holds ok n i e)) (greatest-none ok′ n i (omega arith) below))
+
 -- ---- the least jump
 module _ (test : ℕ → Bool) where
   pub least-ge : (k n : ℕ) → k ≤ least test k n
@@ -125,6 +136,23 @@ module _ (test : ℕ → Bool) where
     where
       below : j < k → ⊥
       below h = omega arith
+
+-- counted from the other end it is the greatest point
+pub least-greatest : (ok : ℕ → Bool) (n : ℕ) → least (λ k. ok (n - k)) 1 n ≡ n + 1 - greatest ok n
+unfolding least greatest
+least-greatest ok n = let one : n + 1 - n ≡ 1 = omega arith in rw one at (upward n (le-refl n))
+  where
+    upward : (j : ℕ) → j ≤ n → least (λ k. ok (n - k)) (n + 1 - j) j ≡ n + 1 - greatest ok j
+    upward zero h = refl
+    upward (suc j) h =
+        let at : n - (n + 1 - suc j) ≡ j = omega arith in
+        let next : suc (n + 1 - suc j) ≡ n + 1 - j = omega arith in
+        rw (at, next) (by-test (ok j) (upward j (omega arith)))
+      where
+        by-test : (b : Bool) → least (λ k. ok (n - k)) (n + 1 - j) j ≡ n + 1 - greatest ok j
+            → cond b (n + 1 - suc j) (least (λ k. ok (n - k)) (n + 1 - j) j) ≡ n + 1 - cond b (suc j) (greatest ok j)
+        by-test true e = refl
+        by-test false e = e
 
 -- a loop that looks from below for J, the least that passes: it stands at k, and `top` is the end
 pub record Upward (test : ℕ → Bool) (top J k : ℕ) : Type 0 where

@@ -9,12 +9,12 @@ use lib.Dec.{eqb}
 use borrow.Author.Tests.{lt-ltb, le-ltb, eq-eqb, ne-eqb, eqb-true, eqb-false}
 use Rattle.fit.specs.Rule.{isPlaceBy}
 use Rattle.fit.specs.Listing.{those}
-use Rattle.fit.specs.Refusal.{maxPoints}
 use Rattle.fit.specs.Spans.{ruleIn}
 use Rattle.fit.specs.Answer.{soughtBy, all}
 use Rattle.fit.proofs.Laws.Bools.{either, le-or-lt}
-use Rattle.jumps.specs.Jumps.{lastJump}
-use Rattle.last.specs.Walk.{afterBy, walkIn, Walkable, seekBy, seek}
+use Rattle.jumps.specs.Jumps.{lastJump, seenJump}
+use Rattle.jumps.proofs.Laws.Sizes.{seen-jump-ge}
+use Rattle.last.specs.Walk.{walkIn, Walkable, seekBy, seek}
 use Rattle.last.proofs.Laws.Walks.{left, last-start, last-end, last-finds, end-try, end-pass}
 
 -- ---- where the jumps of a table lead
@@ -67,26 +67,26 @@ module _ (table y : List ℕ) where
       rw (f, e) (on ∙ same-steps k (length y - (q + entry q)) (q + entry q) (omega (arith, n, e)) (omega arith))
 
 -- ---- the walk of m points compiled to spans, and what is left of it at the window whose last reading stands at q
-abbrev pub leftIn : List ℕ → ℕ → ℕ → List ℕ → ℕ → List ℕ
-leftIn spans m after y q = left (ruleIn spans .fit) m (afterBy after) y (q - (m - 1))
+abbrev pub leftIn : List ℕ → ℕ → List ℕ → ℕ → List ℕ
+leftIn spans m y q = left (ruleIn spans .fit) m y (q - (m - 1))
 
 -- the walk stands there: it tries that window, or it has ended
-pub record Stands (spans table : List ℕ) (m gamma after : ℕ) (y : List ℕ) (q : ℕ) : Type 0 where
-  pub walkable : Walkable spans table m gamma after y
+pub record Stands (spans table seen : List ℕ) (m gamma : ℕ) (y : List ℕ) (q : ℕ) : Type 0 where
+  pub walkable : Walkable spans table seen m gamma y
   pub readings : (i : ℕ) → getD y i 0 < 256
   pub from : m ≤ q + 1
   pub tries : q < length y → lastJump (ruleIn spans .fit) m (getD y q 0) ≡ 0
 
-module _ (spans table : List ℕ) (m gamma after : ℕ) (y : List ℕ) (w : Walkable spans table m gamma after y) where
+module _ (spans table seen : List ℕ) (m gamma : ℕ) (y : List ℕ) (w : Walkable spans table seen m gamma y) where
   -- the places among its windows are all that is sought
-  pub walk-finds : those (isPlaceBy (ruleIn spans) m gamma y) (walkIn spans m after y) ≡ all (soughtBy (ruleIn spans) m gamma y)
-  walk-finds = last-finds (ruleIn spans) m gamma (afterBy after) y (w .ready .some) (w .safe)
+  pub walk-finds : those (isPlaceBy (ruleIn spans) m gamma y) (walkIn spans m y) ≡ all (soughtBy (ruleIn spans) m gamma y)
+  walk-finds = last-finds (ruleIn spans) m gamma y (w .ready .some)
 
   module _ (readings : (i : ℕ) → getD y i 0 < 256) where
     -- what is told of the position to which the jumps lead
     record Leads (q p : ℕ) : Type 0 where
       forth : q ≤ p
-      same : leftIn spans m after y q ≡ leftIn spans m after y p
+      same : leftIn spans m y q ≡ leftIn spans m y p
       tries : p < length y → lastJump (ruleIn spans .fit) m (getD y p 0) ≡ 0
 
     stays : (q p : ℕ) → p ≡ q → (q < length y → lastJump (ruleIn spans .fit) m (getD y q 0) ≡ 0) → Leads q p
@@ -104,7 +104,7 @@ module _ (spans table : List ℕ) (m gamma after : ℕ) (y : List ℕ) (w : Walk
         rw (by-on table y k q l n)
         (record {
           forth = omega (arith, on .forth);
-          same = end-pass (ruleIn spans) m gamma (afterBy after) y (w .ready .some) (w .safe) q (entry table y q) from l jump n ∙ on .same;
+          same = end-pass (ruleIn spans .fit) m y (w .ready .some) q (entry table y q) from l jump n ∙ on .same;
           tries = on .tries;
         }))
         (either (eqb (entry table y q) 0)))
@@ -114,40 +114,40 @@ module _ (spans table : List ℕ) (m gamma after : ℕ) (y : List ℕ) (w : Walk
     unfolding seek
     led q p e from = rw e (leads (length y - q) q (omega arith) from)
 
-    stands : (q p : ℕ) → m ≤ q + 1 → Leads q p → Stands spans table m gamma after y p
+    stands : (q p : ℕ) → m ≤ q + 1 → Leads q p → Stands spans table seen m gamma y p
     stands q p from l = record { walkable = w; readings = readings; from = omega (arith, l .forth); tries = l .tries }
 
     -- before the first window: the walk is what is left where the jumps lead from the last reading of the window at 0
-    pub stands-first : (p : ℕ) → p ≡ seek table y (m - 1) → Stands spans table m gamma after y p × (walkIn spans m after y ≡ leftIn spans m after y p)
+    pub stands-first : (p : ℕ) → p ≡ seek table y (m - 1) → Stands spans table seen m gamma y p × (walkIn spans m y ≡ leftIn spans m y p)
     stands-first p e =
         let some = w .ready .some in
         let l = led (m - 1) p e (omega arith) in
         let none : m - 1 - (m - 1) ≡ 0 = omega arith in (
           stands (m - 1) p (omega arith) l,
-          last-start (ruleIn spans) m gamma (afterBy after) y some (w .safe) ∙ ap (left (ruleIn spans .fit) m (afterBy after) y) (sym none) ∙ l .same,
+          last-start (ruleIn spans .fit) m y some ∙ ap (left (ruleIn spans .fit) m y) (sym none) ∙ l .same,
         )
 
--- after the window that it tries, where the jumps lead from there
-module _ (spans table : List ℕ) (m gamma after : ℕ) (y : List ℕ) (q : ℕ) (at : Stands spans table m gamma after y q) where
-  module _ (h : q < length y) (p : ℕ) (e : p ≡ seek table y (q + afterBy after (getD y q 0))) where
-    next : Leads spans table m gamma after y (at .walkable) (at .readings) (q + afterBy after (getD y q 0)) p
-    next = led spans table m gamma after y (at .walkable) (at .readings) (q + afterBy after (getD y q 0)) p e (omega (arith, at .from))
+-- after the window that it tries, it stands where the jumps lead from where that window's last reading lands
+module _ (spans table seen : List ℕ) (m gamma : ℕ) (y : List ℕ) (q : ℕ) (at : Stands spans table seen m gamma y q) where
+  module _ (h : q < length y) (l p : ℕ) (lands : l ≡ q + getD seen (getD y q 0) 0) (e : p ≡ seek table y l) where
+    landing : l ≡ q + seenJump (ruleIn spans .fit) m (getD y q 0)
+    landing = lands ∙ ap (λ (k : ℕ). q + k) (at .walkable .after .at (getD y q 0) (at .readings q))
 
-    pub stands-next : Stands spans table m gamma after y p
-    stands-next = stands spans table m gamma after y (at .walkable) (at .readings) (q + afterBy after (getD y q 0)) p (omega (arith, at .from)) next
+    next : Leads spans table seen m gamma y (at .walkable) (at .readings) (q + seenJump (ruleIn spans .fit) m (getD y q 0)) p
+    next =
+        led spans table seen m gamma y (at .walkable) (at .readings) (q + seenJump (ruleIn spans .fit) m (getD y q 0)) p
+        (e ∙ ap (seek table y) landing) (omega (arith, at .from))
+
+    pub stands-next : Stands spans table seen m gamma y p
+    stands-next =
+        stands spans table seen m gamma y (at .walkable) (at .readings) (q + seenJump (ruleIn spans .fit) m (getD y q 0)) p (omega (arith, at .from)) next
 
     pub stands-forth : q < p
-    stands-forth = omega (arith, next .forth, at .walkable .safe .forward (getD y q 0))
+    stands-forth = omega (arith, next .forth, seen-jump-ge (ruleIn spans .fit) m (getD y q 0) (at .walkable .ready .some))
 
-    pub stands-try : leftIn spans m after y q ≡ (q - (m - 1)) ∷ leftIn spans m after y p
+    pub stands-try : leftIn spans m y q ≡ (q - (m - 1)) ∷ leftIn spans m y p
     stands-try =
-        end-try (ruleIn spans) m gamma (afterBy after) y (at .walkable .ready .some) (at .walkable .safe) q (at .from) h (at .tries h)
-        ∙ ap (λ (l : List ℕ). (q - (m - 1)) ∷ l) (next .same)
+        end-try (ruleIn spans .fit) m y (at .walkable .ready .some) q (at .from) h (at .tries h) ∙ ap (λ (l : List ℕ). (q - (m - 1)) ∷ l) (next .same)
 
-  pub stands-end : length y ≤ q → leftIn spans m after y q ≡ []
-  stands-end h =
-      last-end (ruleIn spans) m gamma (afterBy after) y (at .walkable .ready .some) (at .walkable .safe) (q - (m - 1)) (omega (arith, at .walkable .ready .some))
-
-  -- what the next step asks of the jump after a tried window
-  pub stands-short : afterBy after (getD y q 0) ≤ maxPoints
-  stands-short = omega (arith, at .walkable .safe .short (getD y q 0), at .walkable .ready .few)
+  pub stands-end : length y ≤ q → leftIn spans m y q ≡ []
+  stands-end h = last-end (ruleIn spans .fit) m y (at .walkable .ready .some) (q - (m - 1)) (omega (arith, at .walkable .ready .some))
