@@ -53,7 +53,7 @@ typedef struct {
     size_t tried;     /* how many windows were tried */
 } jilbaroof_first_place;
 
-/* What each of the five questions about jumps answers. */
+/* What each of the six questions about jumps answers. */
 typedef struct {
     uint32_t refusal; /* 0, or why the question was refused */
     size_t jump;      /* the jump: from the window at s to the window at s + jump */
@@ -112,7 +112,7 @@ jilbaroof_search jilbaroof_maximal(const uint8_t *points, size_t m, uint32_t del
 jilbaroof_first_place jilbaroof_first(const uint8_t *points, size_t m, uint32_t delta, uint32_t gamma,
                                       const uint8_t *recording, size_t n);
 
-/* The five questions: how far a search may go on from a window without passing a place, given what it has seen. Near means: differs by
+/* The six questions: how far a search may go on from a window without passing a place, given what it has seen. Near means: differs by
  * at most the smaller of delta and gamma. 0 is near to no point. */
 
 /* The window's last reading is a. A jump of 0 says that this window must be tried. Where a is 0, the jump is m. */
@@ -121,7 +121,12 @@ jilbaroof_jump jilbaroof_last_reading(const uint8_t *points, size_t m, uint32_t 
 /* The reading directly after a window that was tried is a. Where a is 0, the jump is m + 1. */
 jilbaroof_jump jilbaroof_next_reading(const uint8_t *points, size_t m, uint32_t delta, uint32_t gamma, uint8_t a);
 
-/* The last reading of a window that was tried is near the last point. */
+/* The last reading of a window that was tried is a. This is the jump by which jilbaroof_last and jilbaroof_first go on from there. Where a is 0,
+ * the jump is m. */
+jilbaroof_jump jilbaroof_seen_reading(const uint8_t *points, size_t m, uint32_t delta, uint32_t gamma, uint8_t a);
+
+/* The last reading of a window that was tried is near the last point, and nothing more is known of it. The jump is never longer than that of
+ * jilbaroof_seen_reading for such a reading. */
 jilbaroof_jump jilbaroof_after_check(const uint8_t *points, size_t m, uint32_t delta, uint32_t gamma);
 
 /* All points of the window were near. */

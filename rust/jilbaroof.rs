@@ -117,6 +117,7 @@ mod boundary {
         pub fn jilbaroof_first(points: *const u8, m: usize, delta: u32, gamma: u32, recording: *const u8, n: usize) -> Flat;
         pub fn jilbaroof_last_reading(points: *const u8, m: usize, delta: u32, gamma: u32, a: u8) -> Jump;
         pub fn jilbaroof_next_reading(points: *const u8, m: usize, delta: u32, gamma: u32, a: u8) -> Jump;
+        pub fn jilbaroof_seen_reading(points: *const u8, m: usize, delta: u32, gamma: u32, a: u8) -> Jump;
         pub fn jilbaroof_after_check(points: *const u8, m: usize, delta: u32, gamma: u32) -> Jump;
         pub fn jilbaroof_full(points: *const u8, m: usize, delta: u32, gamma: u32) -> Jump;
         pub fn jilbaroof_mismatch(points: *const u8, m: usize, delta: u32, gamma: u32, p: usize) -> Jump;
@@ -199,6 +200,11 @@ pub fn last_reading(points: &[u8], delta: u32, gamma: u32, a: u8) -> Jump {
 /// The next-reading jump: the reading directly after a tried window is `a`. It is m + 1 where `a` is 0.
 pub fn next_reading(points: &[u8], delta: u32, gamma: u32, a: u8) -> Jump {
     unsafe { boundary::jilbaroof_next_reading(points.as_ptr(), points.len(), delta, gamma, a) }
+}
+
+/// The seen-reading jump: the last reading of a tried window is `a`. By it `last` and `first` go on from there. It is m where `a` is 0.
+pub fn seen_reading(points: &[u8], delta: u32, gamma: u32, a: u8) -> Jump {
+    unsafe { boundary::jilbaroof_seen_reading(points.as_ptr(), points.len(), delta, gamma, a) }
 }
 
 /// The after-check jump: the last reading of a tried window is near the last point.

@@ -218,15 +218,17 @@ static void search_words(const char *name, searcher ask, size_t tried_lost)
     hold(name, list[0] == 0 && list[6] == 6 && list[7] == 71 && sums[0] == 8192 && sums[6] == 8192 && sums[7] == 8191 && sums[64] == 8192);
 }
 
-/* E4; E4 from position 1 on and E5 from 2 on, where place and count differ; a place at the last window, and none with one reading less; a
- * place and a count that 16 bits do not hold; readings of 0. */
+/* E4; E4 from position 1 on and E5 from 2 on, where place and count differ; a place at the last window, and none with one reading less; one
+ * before which the after-check jump would have a window more tried; a place and a count that 16 bits do not hold; readings of 0. */
 static void first(void)
 {
+    static const uint8_t passed[] = {41, 43, 45, 43, 40, 42, 44};
     hold("first, E4", tells(jilbaroof_first(P, 3, 1, 2, L, 14), 0, 1, 0, 1));
     hold("first, E4 from 1", tells(jilbaroof_first(P, 3, 1, 2, L + 1, 13), 0, 1, 5, 3));
     hold("first, E5 from 2", tells(jilbaroof_first(P, 3, 1, 3, L + 2, 12), 0, 1, 1, 2));
     hold("first, last window", tells(jilbaroof_first(P, 3, 1, 2, L + 1, 8), 0, 1, 5, 3));
     hold("first, none", tells(jilbaroof_first(P, 3, 1, 2, L + 1, 7), 0, 0, 0, 2));
+    hold("first, by the reading seen", tells(jilbaroof_first(P, 3, 1, 2, passed, 7), 0, 1, 4, 2));
     hold("first, far on", tells(jilbaroof_first((const uint8_t[]){9, 1, 1}, 3, 0, 0, late, 1000000), 0, 1, 999997, 999996));
     hold("first, lost contact", tells(jilbaroof_first(Q, 3, 12, 12, Y, 17), 0, 1, 13, 5));
     hold("first, lost contact alone", tells(jilbaroof_first(Q, 3, 12, 12, Y, 12), 0, 0, 0, 3));
@@ -313,6 +315,11 @@ static jilbaroof_jump next_reading(const uint8_t *points, size_t m, uint32_t del
     return jilbaroof_next_reading(points, m, delta, gamma, 44);
 }
 
+static jilbaroof_jump seen_reading(const uint8_t *points, size_t m, uint32_t delta, uint32_t gamma)
+{
+    return jilbaroof_seen_reading(points, m, delta, gamma, 44);
+}
+
 static jilbaroof_jump mismatch(const uint8_t *points, size_t m, uint32_t delta, uint32_t gamma)
 {
     return jilbaroof_mismatch(points, m, delta, gamma, 0);
@@ -332,10 +339,10 @@ static void question_refused(const char *name, question ask)
 int main(void)
 {
     static const searcher searchers[] = {jilbaroof_plain, jilbaroof_packed, jilbaroof_last, jilbaroof_skip, jilbaroof_maximal};
-    static const question questions[] = {last_reading, next_reading, jilbaroof_after_check, jilbaroof_full, mismatch};
+    static const question questions[] = {last_reading, next_reading, seen_reading, jilbaroof_after_check, jilbaroof_full, mismatch};
     static const char *const names[] = {"plain", "packed", "last", "skip", "maximal"};
-    static const char *const asked[] = {"last_reading", "next_reading", "after_check", "full", "mismatch"};
-    static const size_t tried[] = {12, 12, 5, 6, 5}, tried_from_1[] = {11, 11, 4, 5, 5};
+    static const char *const asked[] = {"last_reading", "next_reading", "seen_reading", "after_check", "full", "mismatch"};
+    static const size_t tried[] = {12, 12, 4, 6, 5}, tried_from_1[] = {11, 11, 4, 5, 5};
     static const size_t tried_lost[] = {15, 15, 5, 9, 5}, tried_widest[] = {4, 4, 2, 2, 3}, tried_words[] = {137, 137, 73, 137, 73};
     fill();
     for (size_t i = 0; i < 5; i++) {
@@ -344,8 +351,9 @@ int main(void)
         search_words(names[i], searchers[i], tried_words[i]);
         search_refused(names[i], searchers[i]);
         search_limits(names[i], searchers[i]);
-        question_refused(asked[i], questions[i]);
     }
+    for (size_t i = 0; i < 6; i++)
+        question_refused(asked[i], questions[i]);
 
     first();
     first_refused();
@@ -366,6 +374,19 @@ int main(void)
     hold("next_reading 0", says(jilbaroof_next_reading(P, 3, 1, 2, 0), 0, 4));
     hold("next_reading 0, widest", says(jilbaroof_next_reading(P, 3, 255, 16320, 0), 0, 4));
     hold("next_reading 1, widest", says(jilbaroof_next_reading(P, 3, 255, 16320, 1), 0, 1));
+    /* 44 and 45 are near the last point alone, 43 and 41 near the one before it, 40 near the first alone */
+    hold("seen_reading 45", says(jilbaroof_seen_reading(P, 3, 1, 2, 45), 0, 3));
+    hold("seen_reading 44", says(jilbaroof_seen_reading(P, 3, 1, 2, 44), 0, 3));
+    hold("seen_reading 43", says(jilbaroof_seen_reading(P, 3, 1, 2, 43), 0, 1));
+    hold("seen_reading 41", says(jilbaroof_seen_reading(P, 3, 1, 2, 41), 0, 1));
+    hold("seen_reading 40", says(jilbaroof_seen_reading(P, 3, 1, 2, 40), 0, 2));
+    hold("seen_reading 70", says(jilbaroof_seen_reading(P, 3, 1, 2, 70), 0, 3));
+    hold("seen_reading 0", says(jilbaroof_seen_reading(P, 3, 1, 2, 0), 0, 3));
+    hold("seen_reading 0, widest", says(jilbaroof_seen_reading(P, 3, 255, 16320, 0), 0, 3));
+    hold("seen_reading 1, widest", says(jilbaroof_seen_reading(P, 3, 255, 16320, 1), 0, 1));
+    hold("seen_reading, 1 point", says(jilbaroof_seen_reading(P, 1, 1, 2, 40), 0, 1));
+    hold("seen_reading, 64 points", says(jilbaroof_seen_reading(many, 64, 1, 2, 2), 0, 1));
+    hold("seen_reading, 64 points, 3", says(jilbaroof_seen_reading(many, 64, 1, 2, 3), 0, 64));
     hold("after_check", says(jilbaroof_after_check((const uint8_t[]){10, 20, 20}, 3, 1, 2), 0, 1));
     hold("full", says(jilbaroof_full((const uint8_t[]){10, 20, 20}, 3, 1, 2), 0, 3));
     hold("mismatch, E12", says(jilbaroof_mismatch((const uint8_t[]){6, 5}, 2, 1, 2, 2), 0, 1));

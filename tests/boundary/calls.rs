@@ -148,8 +148,8 @@ fn search_words(name: &str, ask: Searcher, tried_lost: usize) {
     assert_eq!(sums, [8_192, 8_192, 8_192, 8_192, 8_192, 8_192, 8_192, 8_191, 8_191], "{name}");
 }
 
-/// E4; E4 from position 1 on and E5 from 2 on, where place and count differ; a place at the last window, and none with one reading less; a
-/// place and a count that 16 bits do not hold; readings of 0.
+/// E4; E4 from position 1 on and E5 from 2 on, where place and count differ; a place at the last window, and none with one reading less; one
+/// before which the after-check jump would have a window more tried; a place and a count that 16 bits do not hold; readings of 0.
 fn first(late: &[u8]) {
     for (points, delta, gamma, recording, spot, tried) in [
         (&P, 1, 2, &L[..], Some(0), 1),
@@ -157,6 +157,7 @@ fn first(late: &[u8]) {
         (&P, 1, 3, &L[2..], Some(1), 2),
         (&P, 1, 2, &L[1..9], Some(5), 3),
         (&P, 1, 2, &L[1..8], None, 2),
+        (&P, 1, 2, &[41, 43, 45, 43, 40, 42, 44], Some(4), 2),
         (&[9, 1, 1], 0, 0, late, Some(999_997), 999_996),
         (&Q, 12, 12, &Y, Some(13), 5),
         (&Q, 12, 12, &Y[..12], None, 3),
@@ -247,7 +248,7 @@ fn main() {
     for (name, ask, tried, tried_from_1, tried_lost, tried_widest, tried_words) in [
         ("plain", jilbaroof::plain as Searcher, 12, 11, 15, 4, 137),
         ("packed", jilbaroof::packed, 12, 11, 15, 4, 137),
-        ("last", jilbaroof::last, 5, 4, 5, 2, 73),
+        ("last", jilbaroof::last, 4, 4, 5, 2, 73),
         ("skip", jilbaroof::skip, 6, 5, 9, 2, 137),
         ("maximal", jilbaroof::maximal, 5, 5, 5, 3, 73),
     ] {
@@ -266,6 +267,7 @@ fn main() {
 
     question_refused(|x, delta, gamma| jilbaroof::last_reading(x, delta, gamma, 44), 0, &many);
     question_refused(|x, delta, gamma| jilbaroof::next_reading(x, delta, gamma, 44), 0, &many);
+    question_refused(|x, delta, gamma| jilbaroof::seen_reading(x, delta, gamma, 44), 0, &many);
     question_refused(jilbaroof::after_check, 0, &many);
     question_refused(jilbaroof::full, 0, &many);
     question_refused(|x, delta, gamma| jilbaroof::mismatch(x, delta, gamma, 0), 6, &many);
@@ -279,6 +281,13 @@ fn main() {
         assert_eq!(jilbaroof::last_reading(&P, 255, 16_320, a), jump(k));
         assert_eq!(jilbaroof::next_reading(&P, 255, 16_320, a), jump(k + 1));
     }
+    // 44 and 45 are near the last point alone, 43 and 41 near the one before it, 40 near the first alone
+    for (a, k) in [(45, 3), (44, 3), (43, 1), (41, 1), (40, 2), (70, 3), (0, 3)] {
+        assert_eq!(jilbaroof::seen_reading(&P, 1, 2, a), jump(k));
+    }
+    assert_eq!([0, 1].map(|a| jilbaroof::seen_reading(&P, 255, 16_320, a)), [jump(3), jump(1)]);
+    assert_eq!(jilbaroof::seen_reading(&P[..1], 1, 2, 40), jump(1));
+    assert_eq!([2, 3].map(|a| jilbaroof::seen_reading(&many[..64], 1, 2, a)), [jump(1), jump(64)]);
     assert_eq!(jilbaroof::after_check(&[10, 20, 20], 1, 2), jump(1));
     assert_eq!(jilbaroof::full(&[10, 20, 20], 1, 2), jump(3));
     assert_eq!(jilbaroof::mismatch(&[6, 5], 1, 2, 2), jump(1));
