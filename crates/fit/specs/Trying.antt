@@ -22,6 +22,10 @@ pub record TriedAll (t : Sought) (ws : List ℕ) (before : Search) (entry : Lent
 abbrev pub missed : ℕ → Search → Search
 missed k r = record { refusal = r .refusal; total = r .total; tried = r .tried + k; least = r .least }
 
+-- the same places, and n windows tried
+abbrev pub counted : Search → ℕ → Search
+counted r n = record { refusal = r .refusal; total = r .total; tried = n; least = r .least }
+
 -- the k windows from s on
 unfoldable pub run : ℕ → ℕ → List ℕ
 run s zero = []

@@ -1,4 +1,5 @@
-// The skip searcher: it probes every m-th reading, and tries the windows that put a near point there.
+// The skip searcher: it probes every m-th reading, and tries the windows that put a near point there. Where there are readings enough it looks only
+// at those that the readings beside the probe suit too: every place is among them. All are counted.
 use fit::Search;
 ghost use mathlib.Core.Path.{_≡_};
 ghost use Prim.Native.Nat.{_+_, _≤_, _<_};
@@ -50,11 +51,65 @@ pub fn over_spans(
         (length (skipWalk (ruleIn (now (spans .entry)) .fit) m (now (recording .entry))))
         (lent (now (list .entry)) (now (sums .entry))) r (lent (now (list .exit)) (now (sums .exit))) ⌝ }
 {
+    // so few readings are searched in the time that the tables would take
+    if recording.len() < 512 + 8 * m {
+        return point_by_point(spans, m, gamma, recording, list, sums, start);
+    }
+    let near = marks::near_masks(spans, m);
+    let counts = marks::mark_counts(&near);
+    let costs = fitted::costs_of(spans, m);
     let mut found = start;
     let mut q = m - 1;
-    while q < recording.len() {
-        found = try_probed(spans, m, gamma, recording, list, sums, q, found);
-        q += m;
+    // the probes all of whose windows lie inside
+    while q + m <= recording.len() {
+        let stop = stops::next_stop(&near, &counts, m, recording, q);
+        found = window::note_none(stop.windows, found);
+        q = stop.q;
+        if q + m <= recording.len() {
+            found = stops::settle(
+                &costs,
+                m,
+                gamma,
+                &near,
+                &counts,
+                recording,
+                list,
+                sums,
+                q,
+                stop.mask,
+                found,
+            );
+            q += m;
+        }
+    }
+    // and the last, if some of its windows run past the end
+    if q < recording.len() {
+        return try_probed(spans, m, gamma, recording, list, sums, q, found);
+    }
+    found
+}
+
+// The same without tables: every point is asked at every probe.
+fn point_by_point(
+    spans: &[u16],
+    m: usize,
+    gamma: u32,
+    recording: &[u8],
+    list: &mut [u32],
+    sums: &mut [u16],
+    start: Search,
+) -> Search
+    requires { ⌜ Ready (now spans) m gamma (length (now recording)) × (start ≡ begun 0) ⌝ }
+    ensures { λ r. ⌜
+        Answer 0 (soughtBy (ruleIn (now (spans .entry))) m gamma (now (recording .entry)))
+        (length (skipWalk (ruleIn (now (spans .entry)) .fit) m (now (recording .entry))))
+        (lent (now (list .entry)) (now (sums .entry))) r (lent (now (list .exit)) (now (sums .exit))) ⌝ }
+{
+    let mut found = start;
+    let mut at = m - 1;
+    while at < recording.len() {
+        found = try_probed(spans, m, gamma, recording, list, sums, at, found);
+        at += m;
     }
     found
 }

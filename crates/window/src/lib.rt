@@ -1,5 +1,5 @@
-// One window at a time: its check over spans, and what is noted of it. Every searcher tries its windows here. What a place is, what spans
-// say and what is noted stand in the definitions of `fit`.
+// One window at a time: its check over spans, and what is noted of it, which crate `noting` has. A window that is tried by itself is tried here.
+// What a place is, what spans say and what is noted stand in the definitions of `fit`.
 mod check;
 mod spans;
 mod trying;
@@ -7,7 +7,8 @@ mod trying;
 pub use check::check_at;
 pub use check::count_windows;
 pub use check::is_place;
+pub use noting::note;
+pub use noting::note_none;
+pub use spans::span_cost;
 pub use spans::suits;
-pub use trying::note;
-pub use trying::note_none;
 pub use trying::try_at;

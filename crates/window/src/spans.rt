@@ -20,7 +20,7 @@ fn in_span(low: u16, high: u16, a: u8) -> bool
 }
 
 // How far a lies outside of from .. to.
-fn span_cost(from: u16, to: u16, a: u8) -> u32
+pub fn span_cost(from: u16, to: u16, a: u8) -> u32
     ensures { λ r. ⌜ (r ≡ spanCost from to a) × (r ≤ 65790) ⌝ }
 {
     let b = a as u16;

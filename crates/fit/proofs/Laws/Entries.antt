@@ -8,6 +8,7 @@ use native.Mathlib.Omega.{arith}
 use lib.ListN.{length, getD, set, replicate, length-set, length-replicate, getD-replicate}
 use lib.Seq.{getD-set-same, getD-set-other}
 use Rattle.fit.specs.Listing.{Entries}
+use Rattle.fit.proofs.Laws.Bools.{le-or-lt}
 use Rattle.fit.proofs.Laws.Uniques.{same-lists}
 
 -- all the same
@@ -30,8 +31,12 @@ pub record Rewritten (f g : ℕ → ℕ) (n : ℕ) (l : List ℕ) (j : ℕ) : Ty
   pub left : (k : ℕ) → j ≤ k → k < n → getD l k 0 ≡ f k
 
 module _ (f g : ℕ → ℕ) (n : ℕ) where
+  -- from any entry on, if those before it stay what they are
+  pub rewritten-from : (j : ℕ) {l : List ℕ} → ((k : ℕ) → k < j → k < n → f k ≡ g k) → Entries f n l → Rewritten f g n l j
+  rewritten-from j same e = record { long = e .long; done = λ k h b. e .each k b ∙ same k h b; left = λ k h b. e .each k b }
+
   pub rewritten-none : {l : List ℕ} → Entries f n l → Rewritten f g n l 0
-  rewritten-none e = record { long = e .long; done = λ k h b. absurd (not-suc-le-zero h); left = λ k h b. e .each k b }
+  rewritten-none e = rewritten-from 0 (λ k h b. absurd (not-suc-le-zero h)) e
 
   pub rewritten-next : (j v : ℕ) {l : List ℕ} → j < n → Rewritten f g n l j → v ≡ g j → Rewritten f g n (set l j v) (j + 1)
   rewritten-next j v {l} h e q = record {
@@ -42,5 +47,12 @@ module _ (f g : ℕ → ℕ) (n : ℕ) where
     left = λ k b c. getD-set-other l j k v 0 (λ x. omega arith) ∙ e .left k (omega arith) c;
   }
 
+  -- up to any entry, if those from it on stay what they are
+  pub rewritten-to : (j : ℕ) {l : List ℕ} → ((k : ℕ) → j ≤ k → k < n → f k ≡ g k) → Rewritten f g n l j → Entries g n l
+  rewritten-to j same e = record {
+    long = e .long;
+    each = λ k b. ⊎-elim (λ (h : j ≤ k). e .left k h b ∙ same k h b) (λ (h : k < j). e .done k h b) (le-or-lt j k);
+  }
+
   pub rewritten-all : (j : ℕ) {l : List ℕ} → n ≤ j → Rewritten f g n l j → Entries g n l
-  rewritten-all j h e = record { long = e .long; each = λ k b. e .done k (omega arith) b }
+  rewritten-all j h e = rewritten-to j (λ k l b. absurd (omega arith)) e

@@ -9,8 +9,9 @@ use lib.ListN.{length, set}
 use Rattle.fit.specs.Listing.{those}
 use Rattle.fit.specs.Sums.{lowered}
 use Rattle.fit.specs.Answer.{Sought, Lent, noted, listed}
-use Rattle.fit.specs.Trying.{countsAfter, listsAfter, TriedAll, missed}
+use Rattle.fit.specs.Trying.{countsAfter, listsAfter, TriedAll, missed, counted}
 use Rattle.fit.specs.declared.answer.Search.{Search}
+use Rattle.fit.proofs.Laws.Bools.{not-both, is-false}
 use Rattle.fit.proofs.Laws.Tryings.{tried-none}
 
 -- ---- what windows leave is told by the places among them, by their sums, and by how many windows they are
@@ -64,9 +65,6 @@ lists-are t (s ∷ ws) r l =
 
 -- ---- the law of a filter: where `some`, by one test, have the places and sums that ws have by the other, to try `some` is to try ws, but for the
 -- count of windows
-abbrev counted : Search → ℕ → Search
-counted r n = record { refusal = r .refusal; total = r .total; tried = n; least = r .least }
-
 pub filtered : (t t′ : Sought) (some ws : List ℕ) (n : ℕ) {before r : Search} {entry final : Lent}
     → those (t .place) some ≡ those (t′ .place) ws → sumsIn t some ≡ sumsIn t′ ws → n ≡ before .tried + length ws → TriedAll t some before entry r final
     → TriedAll t′ ws before entry (counted r n) final
@@ -85,11 +83,31 @@ pub tried-same : (t t′ : Sought) (ws : List ℕ) {before r : Search} {entry fi
 tried-same t t′ ws {before} {r} same sums a =
     filtered t t′ ws ws (r .tried) same sums (ap (λ (u : Search). u .tried) (a .counts ∙ counts-are t ws before)) a
 
--- windows with no place among them are counted, all at once
+-- ---- a filter by a test that every place passes: only the windows that pass it are looked at, and all are counted
+module _ (t : Sought) (keeps : ℕ → Bool) (safe : (s : ℕ) → t .place s ≡ true → keeps s ≡ true) where
+  those-kept : (ws : List ℕ) → those (t .place) (those keeps ws) ≡ those (t .place) ws
+  unfolding those
+  those-kept [] = refl
+  those-kept (s ∷ ws) = by-test (keeps s) refl (those-kept ws)
+    where
+      by-test : (b : Bool) → keeps s ≡ b → those (t .place) (those keeps ws) ≡ those (t .place) ws
+          → those (t .place) (cond b (s ∷ those keeps ws) (those keeps ws)) ≡ cond (t .place s) (s ∷ those (t .place) ws) (those (t .place) ws)
+      by-test true e same = rw same
+      by-test false e same = rw (is-false (t .place s) (λ p. not-both (safe s p) e), same)
+
+  pub kept-tried : (ws : List ℕ) (n : ℕ) {before r r′ : Search} {entry final : Lent} → n ≡ before .tried + length ws → r′ ≡ counted r n
+      → TriedAll t (those keeps ws) before entry r final → TriedAll t ws before entry r′ final
+  kept-tried ws n e f a =
+      let tried = filtered t t (those keeps ws) ws n (those-kept ws) (ap (map (t .sum)) (those-kept ws)) e a in
+      record { counts = f ∙ tried .counts; lists = tried .lists }
+
+  -- where it keeps none, they are counted all at once
+  pub kept-none : (ws : List ℕ) (k : ℕ) {before r : Search} {entry : Lent} → those keeps ws ≡ [] → length ws ≡ k → r ≡ missed k before
+      → TriedAll t ws before entry r entry
+  kept-none ws k {before} {entry = entry} none e f =
+      kept-tried ws (before .tried + k) {r = before} (ap (λ (n : ℕ). before .tried + n) (sym e)) f (rw none (tried-none t before entry))
+
+-- the places themselves are such a filter
 pub none-tried : (t : Sought) (ws : List ℕ) (k : ℕ) {before r : Search} {entry : Lent} → those (t .place) ws ≡ [] → length ws ≡ k → r ≡ missed k before
     → TriedAll t ws before entry r entry
-unfolding those
-none-tried t ws k {before} {entry = entry} none e f =
-    rw f
-    (filtered t t [] ws (before .tried + k) (sym none) (ap (map (t .sum)) (sym none)) (ap (λ (n : ℕ). before .tried + n) (sym e))
-    (tried-none t before entry))
+none-tried t ws k none e f = kept-none t (t .place) (λ s p. p) ws k none e f

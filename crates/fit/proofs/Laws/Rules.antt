@@ -73,6 +73,11 @@ module _ (r : Rule) (m gamma : ℕ) (y : List ℕ) (s : ℕ) where
   unfolding isPlaceBy
   by-is a b c = and-both _ _ (le-leb _ _ a) (and-both _ _ b (le-leb _ _ c))
 
+  -- where all readings suit, only the sum is left to ask
+  pub by-sum : s + m ≤ length y → allFit (r .fit) y s m ≡ true → isPlaceBy r m gamma y s ≡ leb (sumCost (r .cost) y s m) gamma
+  unfolding isPlaceBy
+  by-sum a b = rw (le-leb (s + m) (length y) a, b)
+
   by-parts : isPlaceBy r m gamma y s ≡ true
       → (leb (s + m) (length y) ≡ true) × (allFit (r .fit) y s m ≡ true) × (leb (sumCost (r .cost) y s m) gamma ≡ true)
   unfolding isPlaceBy
@@ -80,6 +85,9 @@ module _ (r : Rule) (m gamma : ℕ) (y : List ℕ) (s : ℕ) where
 
   pub by-inside : isPlaceBy r m gamma y s ≡ true → s + m ≤ length y
   by-inside e = leb-true _ _ (by-parts e .0)
+
+  pub by-all : isPlaceBy r m gamma y s ≡ true → allFit (r .fit) y s m ≡ true
+  by-all e = by-parts e .1
 
   pub by-fit : isPlaceBy r m gamma y s ≡ true → (i : ℕ) → i < m → r .fit i (readingAt y s i) ≡ true
   by-fit e = fit-at (r .fit) y s m (by-parts e .1)
