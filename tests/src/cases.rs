@@ -15,6 +15,11 @@ impl Draw {
         z ^ (z >> 31)
     }
 
+    /// Numbers of their own, for a case that draws many: how many it draws changes no other case.
+    fn apart(&mut self) -> Draw {
+        Draw(self.next())
+    }
+
     /// A number from low to high, both included.
     fn from(&mut self, low: u64, high: u64) -> u64 {
         low + self.next() % (high - low + 1)
@@ -61,7 +66,7 @@ type Made = (Profile, Vec<u8>);
 type Kind = fn(&mut Draw) -> Made;
 
 /// Kinds that need no 0 for what they try, and whose profiles are accepted.
-const ORDINARY: [Kind; 17] = [
+const ORDINARY: [Kind; 21] = [
     few_readings,
     ends_of_the_readings,
     sums_about_gamma,
@@ -79,9 +84,13 @@ const ORDINARY: [Kind; 17] = [
     block_borders,
     block_borders_all_near,
     block_borders_all_near,
+    probes_by_tables,
+    probes_by_tables,
+    probes_of_many_places,
+    probes_of_many_places,
 ];
 const ZEROS: [Kind; 4] = [zeros_within_tolerance, zeros_within_tolerance, zeros_alone_decide, contact_lost];
-/// `zero_in_the_profile` stands here a third time so that there are 27 kinds: a number without a divisor in common with 5, 10 and 200, the steps
+/// `zero_in_the_profile` stands here a third time so that there are 31 kinds: a number without a divisor in common with 5, 10 and 200, the steps
 /// at which other cases take a kind's turn, so that all kinds give way to them alike.
 const REFUSED: [Kind; 6] = [refused, refused, refused, zero_in_the_profile, zero_in_the_profile, zero_in_the_profile];
 
@@ -557,7 +566,7 @@ fn no_tolerance(draw: &mut Draw) -> Made {
 
 /// The points are just so far from the last one that it depends on the reading how far to go on behind a tried window: near it, near readings
 /// that are near it, or not even that. All of them, or one alone, and the others are far. The readings are the same ones, so that many windows
-/// are tried, and their last readings are near the last point by d or not by one. Now and then they are all alike.
+/// are tried, and their last readings are near the last point by d or not by one. Half the time they are all alike.
 fn points_about_the_last(draw: &mut Draw) -> Made {
     let m = draw.one_of(&[1, 2, 2, 3, 3, 5, 9, 64]);
     let delta = draw.number(0, 9);
@@ -581,7 +590,7 @@ fn points_about_the_last(draw: &mut Draw) -> Made {
         let gap = draw.one_of(&[0, 0, 1, 3, m.min(9)]);
         recording.extend(draw.readings(gap, &about));
     }
-    if draw.from(0, 3) == 0 {
+    if draw.from(0, 1) == 0 {
         recording.fill(draw.one_of(&[last - d, last + d]));
     }
     (profile(points, delta, gamma), recording)
@@ -704,6 +713,158 @@ fn block_borders_all_near(draw: &mut Draw) -> Made {
     (profile(vec![reading(0); m], delta, gamma), recording)
 }
 
+/// Skip makes tables of a recording that has so many readings, or more: it passes the probes that have no window which the probe and the readings
+/// directly before and behind it suit, and sieves the windows of the others. Without tables it asks point by point.
+fn least_for_tables(m: usize) -> usize {
+    512 + 8 * m
+}
+
+/// As many readings as skip makes tables of, one fewer and one more; or so many that the last probe has one window inside, all of them, all but
+/// one, or any number.
+fn readings_for_tables(draw: &mut Draw, m: usize) -> usize {
+    let least = least_for_tables(m);
+    let one = least.next_multiple_of(m);
+    let more = least + draw.length(0, 4 * m + 70);
+    draw.one_of(&[least - 1, least, least + 1, one, one + m - 1, one + m - 1, one + m - 2, more, more, more])
+}
+
+/// Few readings are near a point of it, but where its points are anywhere: then most are near some.
+fn profile_for_tables(draw: &mut Draw) -> Profile {
+    let any = draw.length(1, 64);
+    let m = draw.one_of(&[1, 2, 3, 4, 8, 10, 20, 63, 64, 64, 64, any]);
+    let small = draw.number(1, 6);
+    let delta = draw.one_of(&[0, 1, small, small, small, 255]);
+    let some = draw.number(1, small * m as u32);
+    let gamma = match delta {
+        0 => draw.one_of(&[0, some, 16_320]),
+        // d is gamma
+        255 => small,
+        _ => draw.one_of(&[delta - 1, some, some, some, delta * m as u32, 16_320]),
+    };
+    let alphabets = [&ANY[100..=100], &ANY[100..=101], &ANY[100..=109], &ANY[1..=3], &ANY[253..], &ANY[1..], &ANY[1..]];
+    let alphabet = draw.one_of(&alphabets);
+    profile(draw.readings(m, alphabet), delta, gamma)
+}
+
+/// The readings that are near no point, 0 among them; and those of them that are one too far from some point, and 0.
+fn readings_near_none(sought: &Profile) -> (Vec<u8>, Vec<u8>) {
+    let d = sought.delta.min(sought.gamma);
+    let far = |y: &u8| sought.points.iter().all(|x| x.abs_diff(*y) as u32 > d);
+    let too_far = |y: &u8| sought.points.iter().any(|x| x.abs_diff(*y) as u32 == d + 1);
+    let none: Vec<u8> = ANY.into_iter().filter(|y| *y == 0 || far(y)).collect();
+    let just = none.iter().copied().filter(|y| *y == 0 || too_far(y)).collect();
+    (none, just)
+}
+
+/// Where windows are planted that share no reading. A window at s has the probe of all windows from s / m * m on, m of them: the first of them ends
+/// there, the last begins there. Often there is the very first window, the very last, one of the last probe whose windows all lie inside, or one of
+/// the probe behind it.
+fn windows_at_probes(draw: &mut Draw, m: usize, n: usize) -> Vec<usize> {
+    let windows = n - m + 1;
+    let whole = windows / m;
+    let any = |draw: &mut Draw, probe: usize| {
+        let inside = draw.length(0, m - 1);
+        probe * m + draw.one_of(&[0, 0, m - 1, m - 1, 1, m.max(2) - 2, inside, inside])
+    };
+    let mut wished = vec![0, windows - 1, any(draw, whole - 1), whole * m, any(draw, whole)];
+    wished.retain(|_| draw.from(0, 1) == 0);
+    for _ in 0..draw.one_of(&[1, 4, 8, 16]) {
+        let probe = draw.length(0, whole - 1);
+        wished.push(any(draw, probe));
+    }
+    let mut taken: Vec<usize> = Vec::new();
+    for s in wished {
+        if s < windows && taken.iter().all(|other| s.abs_diff(*other) >= m) {
+            taken.push(s);
+        }
+    }
+    taken
+}
+
+/// A window that has this point at its probe: a place, or not by its sum; or it would be one but for one reading, directly before the probe or
+/// behind it, two away from it, there, or at its first or last point.
+fn window_at_probe(draw: &mut Draw, sought: &Profile, at: usize) -> Vec<u8> {
+    let (m, d, g) = (sought.points.len(), sought.delta.min(sought.gamma), sought.g() as u32);
+    if draw.from(0, 1) == 0 {
+        let sum = draw.one_of(&[0, g, g, g + 1, g + 1]);
+        return window_of_sum(draw, &sought.points, d, sum);
+    }
+    let away = [at.wrapping_sub(2), at.wrapping_sub(1), at, at + 1, at + 2, 0, m - 1];
+    let away: Vec<usize> = away.into_iter().filter(|i| *i < m).collect();
+    let far = draw.one_of(&away);
+    // one too far adds d + 1, so that the sum stays within g where g goes beyond d; a 0 may add more
+    window_far_at(draw, &sought.points, d, g.saturating_sub(d + 1), far)
+}
+
+/// Long enough for skip's tables, or one reading short of it. The readings are near no point, or just not, or are any, or points; at every probe or at some stands a near one,
+/// so that probes are passed with windows that count. Windows are planted about probes, but that now and then there is none.
+fn probes_by_tables(draw: &mut Draw) -> Made {
+    let draw = &mut draw.apart();
+    let sought = profile_for_tables(draw);
+    let (m, d) = (sought.points.len(), sought.delta.min(sought.gamma));
+    let n = readings_for_tables(draw, m);
+    let (none, just) = readings_near_none(&sought);
+    let alphabet = draw.one_of(&[&none[..], &none[..], &just[..], &ANY[..], &sought.points[..]]);
+    let mut recording = draw.readings(n, alphabet);
+    let some = draw.one_of(&[1, 2, 5, n]);
+    let windows = if draw.from(0, 4) == 0 { Vec::new() } else { windows_at_probes(draw, m, n) };
+    let every = if windows.is_empty() { 1 } else { some };
+    for probe in (m - 1..n).step_by(m * every) {
+        let point = draw.one_of(&sought.points);
+        let difference = draw.number(0, d);
+        recording[probe] = window_of_sum(draw, &[point], d, difference)[0];
+    }
+    for s in windows {
+        let window = window_at_probe(draw, &sought, m - 1 - s % m);
+        recording[s..s + m].copy_from_slice(&window);
+    }
+    (sought, recording)
+}
+
+/// Long enough for skip's tables, or one reading short of it, with stretches in which the profile repeats, so that probes have several places, or all their windows are places
+/// or have sums about gamma. Now and then there is one stretch alone, or the tolerances are the greatest.
+fn probes_of_many_places(draw: &mut Draw) -> Made {
+    let draw = &mut draw.apart();
+    let any = draw.length(1, 64);
+    let m = draw.one_of(&[1, 2, 3, 8, 10, 20, 63, 64, 64, 64, 64, any]);
+    let n = readings_for_tables(draw, m);
+    if draw.from(0, 3) == 0 {
+        let (points, readings) = draw.one_of(&[(&ANY[1..], &ANY[1..]), (&ENDS[1..], &ENDS[1..]), (&ANY[1..2], &ANY[250..])]);
+        return (profile(draw.readings(m, points), 255, 16_320), draw.readings(n, readings));
+    }
+    let period = draw.one_of(&[1, 1, 2, 3, m]);
+    let alphabet = draw.one_of(&[&ANY[100..=109], &ANY[1..=4], &ANY[252..]]);
+    let unit = draw.readings(period, alphabet);
+    let points: Vec<u8> = unit.iter().copied().cycle().take(m).collect();
+    let delta = draw.number(0, 4);
+    let all = delta * m as u32;
+    let gamma = draw.one_of(&[all, all, all / 2, all / 3, all / 4 + 1, 16_320]);
+    let sought = profile(points, delta, gamma);
+    let recording = stretches(draw, &sought, &unit, n);
+    (sought, recording)
+}
+
+/// So many readings about the unit, which repeats, in stretches; between them stand readings that are near no point.
+fn stretches(draw: &mut Draw, sought: &Profile, unit: &[u8], n: usize) -> Vec<u8> {
+    let (m, d) = (sought.points.len(), sought.delta.min(sought.gamma));
+    let (none, _) = readings_near_none(sought);
+    let alone = draw.from(0, 4) == 0;
+    let mut recording = Vec::new();
+    while recording.len() < n {
+        let length = if alone { n } else { draw.length(1, 4 * m) };
+        let shift = draw.length(0, unit.len() - 1);
+        let most = draw.number(0, d);
+        for x in unit.iter().cycle().skip(shift).take(length) {
+            let difference = draw.number(0, most);
+            recording.extend(window_of_sum(draw, &[*x], d, difference));
+        }
+        let gap = draw.one_of(&[1, 1, 2, m, 3 * m]);
+        recording.extend(draw.readings(gap, &none));
+    }
+    recording.truncate(n);
+    recording
+}
+
 /// A window about the points that holds a 0 at its first, an inner or its last reading. The 0 adds its difference to the sum, so that the
 /// window has the sum asked for as far as differences go.
 fn window_with_zero(draw: &mut Draw, points: &[u8], delta: u32, sum: u32) -> Vec<u8> {
@@ -747,7 +908,7 @@ fn lose_contact(draw: &mut Draw, m: usize, windows: &[usize], recording: &mut [u
     for _ in 0..draw.from(1, 3) {
         let anywhere = draw.length(0, n - 1);
         let s = if windows.is_empty() { anywhere } else { draw.one_of(windows) };
-        let at = draw.one_of(&[0, n - 1, anywhere, s, s + m / 2, s + m - 1, s + m]).min(n - 1);
+        let at = draw.one_of(&[0, n - 1, anywhere, s, s, s + m / 2, s + m - 1, s + m - 1, s + m]).min(n - 1);
         let run = draw.one_of(&[1, 1, 1, 2, m]).min(n - at);
         recording[at..at + run].fill(0);
     }
@@ -1117,6 +1278,237 @@ mod coverage {
             ("landing: constant, longer than the after-check jump", constant && longer(&|_| true)),
             ("landing: constant, every window a place", constant && m > 1 && found.len() > 1 && any(&|_| true)),
         ]
+    }
+
+    /// A probe of skip's, in a case that has readings enough for tables: the probe, and points counted from 0 whose windows put them there and lie
+    /// inside the recording.
+    struct Probe {
+        q: usize,
+        /// all m windows that hold it lie inside
+        whole: bool,
+        /// the points that are near the probe, so that their windows are tried
+        near: Vec<usize>,
+        /// those of them whose windows have near points directly before and behind the probe, as far as they have such
+        worth: Vec<usize>,
+        /// those whose windows have near points alone
+        suited: Vec<usize>,
+    }
+
+    fn is_near(profile: &Profile, i: usize, reading: u8) -> bool {
+        reading != 0 && profile.points[i].abs_diff(reading) as u32 <= profile.delta.min(profile.gamma)
+    }
+
+    fn has_tables(case: &Case) -> bool {
+        case.recording.len() >= least_for_tables(case.profile.points.len())
+    }
+
+    /// "skip probes y[m-1], y[2m-1], and so on below n"; none where there are no tables.
+    fn probes(case: &Case) -> Vec<Probe> {
+        let (m, n) = (case.profile.points.len(), case.recording.len());
+        let near = |q: usize, i: usize, k: usize| is_near(&case.profile, k, case.recording[q - i + k]);
+        let probe = |q: usize| {
+            let windows: Vec<usize> = (0..m).filter(|i| q - i + m <= n && near(q, *i, *i)).collect();
+            let beside = |i: usize| (i.max(1) - 1..=(i + 1).min(m - 1)).all(|k| near(q, i, k));
+            let worth: Vec<usize> = windows.iter().copied().filter(|i| beside(*i)).collect();
+            let suited = worth.iter().copied().filter(|i| (0..m).all(|k| near(q, *i, k))).collect();
+            Probe { q, whole: q + m <= n, near: windows, worth, suited }
+        };
+        if !has_tables(case) {
+            return Vec::new();
+        }
+        (m - 1..n).step_by(m).map(probe).collect()
+    }
+
+    /// How many readings and points there are, and how many windows of the last probe lie inside.
+    fn table_situations(case: &Case, found: &[i64]) -> Vec<(&'static str, bool)> {
+        let (m, n) = (case.profile.points.len(), case.recording.len());
+        let tables = has_tables(case);
+        let inside = count_of_windows(case) % m;
+        let (delta, gamma) = (case.profile.delta, case.profile.gamma);
+        let place = tables && !found.is_empty();
+        vec![
+            ("probes: n is 511 + 8m, and a place", n == 511 + 8 * m && !found.is_empty()),
+            ("probes: n is 512 + 8m, and a place", n == 512 + 8 * m && !found.is_empty()),
+            ("probes: n is 513 + 8m, and a place", n == 513 + 8 * m && !found.is_empty()),
+            ("probes: all windows of the last inside", tables && m > 1 && inside == 0),
+            ("probes: all windows of the last inside but one", tables && m > 2 && inside == m - 1),
+            ("probes: one window of the last inside", tables && m > 2 && inside == 1),
+            ("probes: some windows of the last inside", tables && 1 < inside && inside < m - 1),
+            ("probes: 1 point, and a place", place && m == 1),
+            ("probes: 2 points, and a place", place && m == 2),
+            ("probes: 3 points, and a place", place && m == 3),
+            ("probes: 63 points, and a place", place && m == 63),
+            ("probes: 64 points, and a place", place && m == 64),
+            ("probes: delta 0, and a place", place && delta == 0),
+            ("probes: delta 255, and a place", place && delta == 255),
+            ("probes: delta above gamma, and a place", place && delta > gamma),
+            ("probes: greatest tolerances, and a place", place && delta == 255 && gamma == 16_320),
+            ("probes: no place", tables && found.is_empty()),
+            ("probes: all windows are places", tables && found.len() == count_of_windows(case)),
+        ]
+    }
+
+    /// Where places stand about probes, in a case with tables. Window s has the probe number s / m, counted from 0, and is its window s % m.
+    fn place_situations(case: &Case, found: &[i64], probes: &[Probe]) -> Vec<(&'static str, bool)> {
+        let m = case.profile.points.len();
+        let last = count_of_windows(case).wrapping_sub(1);
+        let whole = probes.iter().filter(|probe| probe.whole).count();
+        let none = |at: Option<&u8>| at.is_some_and(|y| (0..m).all(|i| !is_near(&case.profile, i, *y)));
+        let reading = |at: Option<usize>| case.recording.get(at?);
+        let places: Vec<usize> = found.iter().map(|s| *s as usize).collect();
+        let any = |test: &dyn Fn(usize) -> bool| !probes.is_empty() && places.iter().any(|s| test(*s));
+        let inside = |test: &dyn Fn(usize) -> bool| any(&|s| s / m < whole && m > 1 && test(s));
+        let sum_at = |s: usize| sum(&case.profile, &case.recording, s as i64);
+        // two places that follow each other: whether one probe has both
+        let of_one = |two: &[usize]| two[0] / m == two[1] / m && two[0] / m < whole;
+        // the last place that the list has, and the one after it
+        let ends = case.room.checked_sub(1).and_then(|k| places.get(k..k + 2));
+        vec![
+            ("probes: a place begins there", inside(&|s| s % m == m - 1)),
+            (
+                "probes: a place begins there, the reading before near no point",
+                inside(&|s| s % m == m - 1 && none(reading(s.checked_sub(1)))),
+            ),
+            ("probes: a place ends there", inside(&|s| s % m == 0)),
+            (
+                "probes: a place ends there, the reading behind near no point",
+                inside(&|s| s % m == 0 && none(reading(Some(s + m)))),
+            ),
+            ("probes: a place has its second point there", inside(&|s| m > 3 && s % m == m - 2)),
+            ("probes: a place has its last point but one there", inside(&|s| m > 3 && s % m == 1)),
+            ("probes: a place has an inner point there", inside(&|s| s % m > 1 && s % m + 2 < m)),
+            ("probes: a place begins there, 64 points", inside(&|s| m == 64 && s % m == 63)),
+            ("probes: a place ends there, 64 points", inside(&|s| m == 64 && s % m == 0)),
+            ("probes: a place at the first window", any(&|s| s == 0)),
+            ("probes: a place at the last window, of the last whole one", inside(&|s| s == last)),
+            ("probes: a place at the last window, behind the last whole one", any(&|s| s == last && s / m == whole)),
+            ("probes: a place at the first window behind the last whole one", any(&|s| s == whole * m)),
+            ("probes: a place of the last whole one", inside(&|s| s / m + 1 == whole)),
+            ("probes: a place in the midst, the only one", places.len() == 1 && inside(&|s| s >= m && s / m + 2 < whole)),
+            ("probes: a place of sum gamma above 0", inside(&|s| sum_at(s) > 0 && sum_at(s) == case.profile.gamma as i64)),
+            ("probes: a place of a sum above 255", inside(&|s| sum_at(s) > 255)),
+            ("probes: a place of a sum above 8,191", inside(&|s| sum_at(s) > 8_191)),
+            ("probes: several places of one", places.windows(2).any(of_one)),
+            ("probes: list ends among the places of one", ends.is_some_and(of_one)),
+        ]
+    }
+
+    /// The windows that would be places but for the reading at one point, by any probe whose windows all lie inside: the point at the probe, and that
+    /// one. Even so the sum is at most gamma.
+    fn spoilt_at_one(case: &Case, probes: &[Probe]) -> Vec<(usize, usize)> {
+        let (points, m) = (&case.profile.points, case.profile.points.len());
+        let whole = probes.iter().filter(|probe| probe.whole).count();
+        let far = |window: &[u8]| -> Vec<usize> { (0..m).filter(|i| !is_near(&case.profile, *i, window[*i])).collect() };
+        let total = |window: &[u8]| window.iter().zip(points).map(|(y, x)| y.abs_diff(*x) as u32).sum::<u32>();
+        let within = windows(case).take(whole * m).filter(|(_, window)| total(window) <= case.profile.gamma);
+        within
+            .filter_map(|(s, window)| match far(window)[..] {
+                [i] => Some((m - 1 - s as usize % m, i)),
+                _ => None,
+            })
+            .collect()
+    }
+
+    /// How little keeps windows about probes from being places, in a case with tables.
+    fn spoilt_probe_situations(case: &Case, probes: &[Probe], near: &[(i64, u32)]) -> Vec<(&'static str, bool)> {
+        let (m, gamma) = (case.profile.points.len(), case.profile.gamma);
+        let whole = probes.iter().filter(|probe| probe.whole).count();
+        let at_one = spoilt_at_one(case, probes);
+        let any = |test: &dyn Fn(usize, usize) -> bool| at_one.iter().any(|(at, i)| test(*at, *i));
+        let over = |test: &dyn Fn(usize) -> bool| {
+            near.iter().any(|(s, sum)| (*s as usize) < whole * m && *sum == gamma + 1 && test(*s as usize % m))
+        };
+        vec![
+            ("probes: a place but for the reading there", any(&|at, i| m > 1 && i == at)),
+            ("probes: a place but for the reading before", any(&|at, i| i + 1 == at)),
+            ("probes: a place but for the reading behind", any(&|at, i| i == at + 1)),
+            ("probes: a place but for the reading two before", any(&|at, i| i + 2 == at)),
+            ("probes: a place but for the reading two behind", any(&|at, i| i == at + 2)),
+            ("probes: a place but for its first reading, farther away", any(&|at, i| i == 0 && at > 2)),
+            ("probes: a place but for its last reading, farther away", any(&|at, i| i == m - 1 && at + 3 < m)),
+            ("probes: a place but for the first reading, and it ends there", any(&|at, i| i == 0 && at == m - 1 && m > 1)),
+            ("probes: a place but for the last reading, and it begins there", any(&|at, i| i == m - 1 && at == 0 && m > 1)),
+            ("probes: a place but for a reading, 64 points", any(&|_, _| m == 64)),
+            ("probes: a place but for readings of 0", spoilt(case).iter().any(|w| m > 1 && (w.s as usize) < whole * m)),
+            ("probes: sum gamma + 1", over(&|_| m > 1)),
+            ("probes: sum gamma + 1, and it begins there", over(&|k| m > 1 && k == m - 1)),
+            ("probes: sum gamma + 1, and it ends there", over(&|k| m > 1 && k == 0)),
+            ("probes: sum gamma + 1, 64 points", over(&|_| m == 64)),
+        ]
+    }
+
+    /// Which probes are passed, in a case with tables, and what the others have.
+    fn passed_situations(case: &Case, found: &[i64], probes: &[Probe]) -> Vec<(&'static str, bool)> {
+        let (recording, points) = (&case.recording, &case.profile.points);
+        let (m, d) = (points.len(), case.profile.delta.min(case.profile.gamma));
+        let whole: Vec<&Probe> = probes.iter().filter(|probe| probe.whole).collect();
+        let behind = probes.iter().find(|probe| !probe.whole);
+        let passed = |probe: &Probe| m > 1 && probe.worth.is_empty();
+        let counts = |probe: &Probe| passed(probe) && !probe.near.is_empty();
+        let count = |y: u8| (0..m).filter(|i| is_near(&case.profile, *i, y)).count();
+        let beside = |probe: &Probe| [recording[probe.q - 1], recording[probe.q + 1]].map(count);
+        let any = |test: &dyn Fn(&Probe) -> bool| whole.iter().any(|probe| test(probe));
+        let with_places: std::collections::BTreeSet<usize> = found.iter().map(|s| *s as usize / m).collect();
+        let place = |probe: &Probe| with_places.contains(&(probe.q / m));
+        let row = |test: &dyn Fn(&Probe, &Probe) -> bool| whole.windows(2).any(|two| test(two[0], two[1]));
+        vec![
+            ("probes: passed, with near points", any(&|probe| counts(probe) && beside(probe) == [0, 0])),
+            (
+                "probes: passed, with more near points than the readings beside",
+                any(&|probe| counts(probe) && beside(probe).iter().all(|k| *k > 0 && *k < probe.near.len())),
+            ),
+            (
+                "probes: passed, with no near point, and the readings beside have some",
+                any(&|probe| passed(probe) && probe.near.is_empty() && beside(probe).iter().all(|k| *k > 0)),
+            ),
+            ("probes: the first passed, with near points", whole.first().is_some_and(|probe| counts(probe))),
+            ("probes: the last whole one passed, with near points", whole.last().is_some_and(|probe| counts(probe))),
+            ("probes: all passed, with near points", !whole.is_empty() && whole.iter().all(|probe| counts(probe))),
+            ("probes: none passed", m > 1 && !whole.is_empty() && whole.iter().all(|probe| !passed(probe))),
+            ("probes: ten passed in a row, with near points", whole.windows(10).any(|ten| ten.iter().all(|probe| counts(probe)))),
+            ("probes: passed before one with a place", row(&|one, two| counts(one) && place(two))),
+            ("probes: passed behind one with a place", row(&|one, two| place(one) && counts(two))),
+            ("probes: places of two in a row", row(&|one, two| m > 1 && place(one) && place(two))),
+            (
+                "probes: worth a look, and no window suits",
+                any(&|probe| m > 1 && !probe.worth.is_empty() && probe.suited.is_empty()),
+            ),
+            (
+                "probes: some windows worth a look suit, others not",
+                any(&|probe| !probe.suited.is_empty() && probe.suited.len() < probe.worth.len()),
+            ),
+            ("probes: several windows of one suit, not all", any(&|probe| probe.suited.len() > 1 && probe.suited.len() < m)),
+            ("probes: all windows of one suit", any(&|probe| m > 1 && probe.suited.len() == m)),
+            ("probes: all windows of one suit, 64 points", any(&|probe| m == 64 && probe.suited.len() == m)),
+            (
+                "probes: near points of the last, and a window would run past the end",
+                behind.is_some_and(|last| !last.near.is_empty() && last.near.len() < count(recording[last.q])),
+            ),
+            (
+                "probes: reading 0, within d of a point",
+                any(&|probe| recording[probe.q] == 0 && points.iter().any(|x| *x as u32 <= d)),
+            ),
+            (
+                "probes: reading 255, and its point reaches beyond",
+                any(&|probe| recording[probe.q] == 255 && probe.near.iter().any(|i| points[*i] as u32 + d > 255)),
+            ),
+            (
+                "probes: reading 1, and its point reaches below",
+                any(&|probe| recording[probe.q] == 1 && probe.near.iter().any(|i| points[*i] as u32 <= d)),
+            ),
+        ]
+    }
+
+    /// All that is so about probes. The windows of their near points are those that skip tries.
+    fn probe_situations(case: &Case, found: &[i64], near: &[(i64, u32)]) -> Vec<(&'static str, bool)> {
+        let probes = probes(case);
+        if has_tables(case) {
+            let tried: usize = probes.iter().map(|probe| probe.near.len()).sum();
+            assert_eq!(tried, walk(Searcher::Skip, &case.profile, &case.recording).len(), "{}", frames::describe(case));
+        }
+        let places = place_situations(case, found, &probes);
+        let spoilt = spoilt_probe_situations(case, &probes, near);
+        [table_situations(case, found), places, spoilt, passed_situations(case, found, &probes)].concat()
     }
 
     /// Which of 2 and 3 apply, whatever comes before them: neither, 2, 3, or both.
@@ -1500,8 +1892,8 @@ mod coverage {
             let zeros = [spoilt_situations(&case, &found), zero_situations(&case, &found), walk_situations(&case)].concat();
             let sums = [least_situations(&case, &found), great_situations(&case, &found)].concat();
             let seen = [seen_situations(&case), landing_situations(&case, &found)].concat();
-            let blocks = block_situations(&case, &found, &near);
-            for (situation, yes) in [blocks, zeros, check_situations(&case), sums, seen].concat() {
+            let (blocks, probes) = (block_situations(&case, &found, &near), probe_situations(&case, &found, &near));
+            for (situation, yes) in [blocks, probes, zeros, check_situations(&case), sums, seen].concat() {
                 meets(situation, yes);
             }
         }
@@ -1567,6 +1959,15 @@ mod coverage {
         }
         assert_eq!(met.len(), 16);
         assert!(sums_in_all_lengths().iter().all(|case| lent.contains(&frames::describe(case))));
+    }
+
+    /// The number of kinds has no divisor in common with the steps at which other cases take a kind's turn.
+    #[test]
+    fn all_kinds_give_way_alike() {
+        let kinds = ORDINARY.len() + ZEROS.len() + REFUSED.len();
+        for step in [LONG_EVERY, EDGE_EVERY, SUMS_EVERY] {
+            assert!((2..=step).all(|k| (kinds % k, step % k) != (0, 0)), "{kinds} kinds, one in {step}");
+        }
     }
 
     /// What is planted is found, and nothing else.
