@@ -2,17 +2,17 @@
 //! NumPy; built with `--cfg earlier`, also against the searchers of an earlier revision. It prints a table. Every answer, total, least sum and
 //! both whole lists, is held to the straightforward program's; a difference ends the bench with status 1. NumPy tells no sums, and neither do
 //! the searchers before request #107, for which `--cfg earlier_without_sums` is given. Times are the minimum over interleaved rounds: each
-//! round runs every program once, after clearing the lists and reading the recording once for each. A second table, of first.rs, has `first`
-//! beside `last`.
+//! round runs every program once, after clearing the lists and reading the recording once for each. A second table has short recordings,
+//! without NumPy, and a third, of first.rs, `first` beside `last`.
 //! The arguments are the number of rounds and, for NumPy, the command that starts bench/whole_arrays.py; or `first` and the number of rounds,
-//! for the second table alone.
+//! for the third table alone.
 mod first;
 mod numpy;
 mod rivals;
 mod rows;
 
 use numpy::Numpy;
-use rows::{READINGS, Recordings, Row};
+use rows::{Recordings, Row};
 use std::hint::black_box;
 use std::time::{Duration, Instant};
 
@@ -148,7 +148,8 @@ impl Right {
 
 /// The total of places, and the shortest time of each program; none for an earlier packed that is refused.
 fn measure(row: &Row, rounds: usize, contenders: &mut [Contender]) -> (usize, Vec<Option<Duration>>) {
-    let (mut list, mut sums) = (vec![0; READINGS], vec![0; READINGS]);
+    let n = row.recording.len();
+    let (mut list, mut sums) = (vec![0; n], vec![0; n]);
     let mut right = Right::default();
     let mut best = vec![None; contenders.len()];
     contenders.iter_mut().for_each(|contender| contender.program.meet(row));
@@ -172,11 +173,14 @@ fn measure(row: &Row, rounds: usize, contenders: &mut [Contender]) -> (usize, Ve
     (right.total, best)
 }
 
-/// A line of the table: the early-exit program in milliseconds, every other as its ratio to that, the earlier searcher's first.
-fn print(row: &Row, total: usize, contenders: &[Contender], best: &[Option<Duration>]) {
+/// How the early-exit program's time is told: a unit's name, and how many of it are a second.
+struct Unit(&'static str, f64);
+
+/// A line of the table: the early-exit program's own time, every other as its ratio to that, the earlier searcher's first.
+fn print(row: &Row, total: usize, contenders: &[Contender], best: &[Option<Duration>], unit: &Unit) {
     let base = best[EARLY_EXIT].unwrap().as_secs_f64();
     print!("| {} | {} | {} | {} | {} |", row.name, row.points.len(), row.delta, row.gamma, row.words());
-    print!(" {total} | {:.3} |", base * 1e3);
+    print!(" {total} | {:.3} |", base * unit.1);
     for (k, (contender, time)) in contenders.iter().zip(best).enumerate() {
         let ratio = time.map(|time| time.as_secs_f64() / base);
         match ratio {
@@ -191,8 +195,9 @@ fn print(row: &Row, total: usize, contenders: &[Contender], best: &[Option<Durat
 }
 
 /// Prints the table's head.
-fn head(contenders: &[Contender]) {
-    let mut columns = vec!["recording", "m", "delta", "gamma", "words", "places", "early exit, ms"];
+fn head(contenders: &[Contender], unit: &Unit) {
+    let exit = format!("early exit, {}", unit.0);
+    let mut columns = vec!["recording", "m", "delta", "gamma", "words", "places", &exit];
     for (k, contender) in contenders.iter().enumerate() {
         if k != EARLY_EXIT && !contender.earlier {
             columns.push(contender.name);
@@ -202,15 +207,14 @@ fn head(contenders: &[Contender]) {
     println!("|{}", "---|".repeat(columns.len()));
 }
 
-/// Prints the table of all searchers; NumPy is in it if there is a command for it.
-fn table(recordings: &Recordings, rounds: usize, command: &[String]) {
-    let numpy = (!command.is_empty()).then(|| Numpy::start(command).expect("Python starts"));
-    let mut contenders = contenders(numpy);
-    head(&contenders);
-    for row in recordings.rows() {
-        let (total, best) = measure(&row, rounds, &mut contenders);
-        print(&row, total, &contenders, &best);
+/// Prints a table of all searchers.
+fn table(rows: &[Row], rounds: usize, contenders: &mut [Contender], unit: Unit) {
+    head(contenders, &unit);
+    for row in rows {
+        let (total, best) = measure(row, rounds, contenders);
+        print(row, total, contenders, &best, &unit);
     }
+    println!();
 }
 
 fn main() {
@@ -220,8 +224,10 @@ fn main() {
     let rounds = rounds.parse().expect("a number of rounds");
     let recordings = Recordings::new();
     if !alone {
-        table(&recordings, rounds, command);
-        println!();
+        let numpy = (!command.is_empty()).then(|| Numpy::start(command).expect("Python starts"));
+        table(&recordings.rows(), rounds, &mut contenders(numpy), Unit("ms", 1e3));
+        // a call of microseconds needs more of them
+        table(&recordings.short_rows(), rounds * 50, &mut contenders(None), Unit("µs", 1e6));
     }
     first::table(&recordings, rounds);
 }

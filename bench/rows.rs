@@ -53,6 +53,19 @@ impl Recordings {
         rows
     }
 
+    /// Short recordings, where the tables take a greater part of a search's time: the middle of the random one, so that the profile is that of its rows.
+    pub fn short_rows(&self) -> Vec<Row<'_>> {
+        let mut rows = Vec::new();
+        for (name, n) in [("random, 1,000 readings", 1_000), ("random, 12,000 readings", 12_000)] {
+            let recording = &self.random[(READINGS - n) / 2..(READINGS + n) / 2];
+            rows.extend([(8, 5), (10, 5), (20, 5), (64, 5), (8, 20), (64, 20)].map(|(m, delta)| {
+                let points = recording[n / 2..n / 2 + m].to_vec();
+                Row { name, points, delta, gamma: WIDE, recording }
+            }));
+        }
+        rows
+    }
+
     /// The profile of the random rows, and the random recording with the profile at `place` alone, or nowhere.
     pub fn planted(&self, m: usize, place: Option<usize>) -> (Vec<u8>, Vec<u8>) {
         let mut recording = self.random.clone();
