@@ -8,6 +8,7 @@ use lib.ListN.{length, take, drop}
 use lib.Dec.{ltb}
 use Rattle.fit.specs.Reading.{highest}
 use Rattle.counters.specs.Word.{wordBits}
+use Rattle.counters.specs.Sums.{costs}
 use Rattle.counters.specs.Words.{across, LaidAcross}
 
 -- n counters of l bits fit a word, and every addition for (d, g) fits its counter
@@ -23,9 +24,9 @@ pub record Room (l n d g : ℕ) : Type 0 where
 abbrev pub rowOf : ℕ → List ℕ → ℕ → List ℕ
 rowOf k t a = take k (drop (a * k) t)
 
--- what they have at point i
-abbrev pub costIn : ℕ → ℕ → ℕ → List ℕ → ℕ → ℕ → ℕ
-costIn l n k t i a = across l n (rowOf k t a) i
+-- what they cost at point i, where the first counter of each reading holds the counter c as well, that enters there
+abbrev pub costIn : ℕ → ℕ → ℕ → ℕ → List ℕ → ℕ → ℕ → ℕ
+costIn l n c k t i a = costs c (across l n (rowOf k t a)) i
 
 -- f at the m points, and nothing at the counters above the last one
 unfoldable pub padded : ℕ → (ℕ → ℕ) → ℕ → ℕ

@@ -5,7 +5,7 @@ ghost use lib.ListN.{length};
 ghost use Rattle.fit.specs.Reading.{highest};
 ghost use Rattle.fit.specs.Refusal.{maxPoints};
 ghost use Rattle.counters.specs.Word.{Laid};
-ghost use Rattle.adding.specs.Costs.{added, addedOf};
+ghost use Rattle.adding.specs.Costs.{added, addedOf, withEntering};
 ghost use Rattle.adding.specs.Tables.{Room, padded, TabledIn};
 
 // What reading a adds to the counter of point p: the difference, or g + 1 where it is not near.
@@ -53,16 +53,50 @@ fn word_addition(points: &[u8], per: usize, l: u32, d: u32, g: u64, j: usize, a:
     addition(&points[from..to], l, d, g, a)
 }
 
-// Puts the words of all 256 readings into the table, `used` to a reading.
-pub fn additions(points: &[u8], per: usize, used: usize, l: u32, d: u32, g: u64, table: &mut [u64])
-    requires { ⌜ Room l per d g × (1 ≤ per) × (1 ≤ used) × (used ≤ maxPoints) × (suc highest * used ≤ length (now table)) ⌝ }
+// The same with the counter that enters at point 1: it is added in the first word, and then the scan has not to put it in.
+fn entered_addition(
+    points: &[u8],
+    per: usize,
+    l: u32,
+    d: u32,
+    g: u64,
+    enter: u64,
+    j: usize,
+    a: u8,
+) -> u64
+    requires { ⌜ Room l per d g × (enter + (g + 1) < 2 ^ l) × (1 ≤ per) × (1 ≤ length (now points)) × (j ≤ maxPoints) ⌝ }
+    ensures { λ r. ⌜
+        Laid l per r (λ t.
+        padded (length (now (points .entry))) (λ i. withEntering enter (addedOf d g (now (points .entry))) i a) (j * per + t)) ⌝ }
+{
+    let word = word_addition(points, per, l, d, g, j, a);
+    if j == 0 {
+        return word + enter;
+    }
+    word
+}
+
+// Puts the words of all 256 readings into the table, `used` to a reading. The counter `enter` enters with each reading.
+pub fn additions(
+    points: &[u8],
+    per: usize,
+    used: usize,
+    l: u32,
+    d: u32,
+    g: u64,
+    enter: u64,
+    table: &mut [u64],
+)
+    requires { ⌜ Room l per d g × (enter + (g + 1) < 2 ^ l) × (1 ≤ per) × (1 ≤ length (now points)) ⌝ }
+    requires { ⌜ (1 ≤ used) × (used ≤ maxPoints) × (suc highest * used ≤ length (now table)) ⌝ }
     ensures { λ _. ⌜
-        TabledIn l per used (length (now (points .entry))) (addedOf d g (now (points .entry))) (now (table .entry)) (now (table .exit)) ⌝ }
+        TabledIn l per used (length (now (points .entry))) (withEntering enter (addedOf d g (now (points .entry))))
+        (now (table .entry)) (now (table .exit)) ⌝ }
 {
     let rows = 256 * used;
     let mut i: usize = 0;
     while i < rows {
-        table[i] = word_addition(points, per, l, d, g, i % used, (i / used) as u8);
+        table[i] = entered_addition(points, per, l, d, g, enter, i % used, (i / used) as u8);
         i += 1;
     }
 }

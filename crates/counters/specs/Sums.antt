@@ -29,13 +29,22 @@ stepped cost p s i = moved p s i + cost i
 abbrev pub grown : ℕ → ℕ → ℕ → ℕ
 grown b c a = bitOr (bitAnd c (2 ^ b - 1) + a) (bitAnd c (2 ^ b))
 
--- a word that may be added: none of its m counters is above g + 1
-pub record Small (b g m w : ℕ) : Type 0 where
+-- a word that may be added: none of its m counters is above 2^b, so that none carries into the next
+pub record Small (b m w : ℕ) : Type 0 where
   pub bound : w < 2 ^ (suc b * m)
-  pub each : (i : ℕ) → i < m → counter (suc b) w i ≤ g + 1
+  pub each : (i : ℕ) → i < m → counter (suc b) w i ≤ 2 ^ b
 
--- One reading over the word w, where the counter c enters and the counters of `add` are added, gives the word r: what each counter
--- holds, and that with whatever sums the word agreed, it agrees with them again.
-pub record Turned (b g m w c add r : ℕ) : Type 0 where
-  pub laid : Laid (suc b) m r (λ i. grown b (moved c (counter (suc b) w) i) (counter (suc b) add i))
-  pub agrees : (p : ℕ) (s : ℕ → ℕ) → Stands b g c p → Agrees b g m w s → Agrees b g m r (stepped (counter (suc b) add) p s)
+-- One reading over the word w, where the counter c enters and each counter grows by its cost, gives the word r: what each counter holds,
+-- and that with whatever sums the word agreed, it agrees with them again.
+pub record Turned (b g m w c : ℕ) (cost : ℕ → ℕ) (r : ℕ) : Type 0 where
+  pub laid : Laid (suc b) m r (λ i. grown b (moved c (counter (suc b) w) i) (cost i))
+  pub agrees : (p : ℕ) (s : ℕ → ℕ) → Stands b g c p → Agrees b g m w s → Agrees b g m r (stepped cost p s)
+
+-- a counter c that enters by being added: at the first point, and nothing at the others
+unfoldable pub entering : ℕ → ℕ → ℕ
+entering c zero = c
+entering c (suc i) = 0
+
+-- what additions cost whose first holds the entering counter c as well
+unfoldable pub costs : ℕ → (ℕ → ℕ) → ℕ → ℕ
+costs c adds i = adds i - entering c i

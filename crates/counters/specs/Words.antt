@@ -37,15 +37,16 @@ pub record AgreesAcross (b g n : ℕ) (ws : List ℕ) (s : ℕ → ℕ) : Type 0
   pub whole : Whole (suc b) n ws
   pub each : (i : ℕ) → i < length ws * n → Stands b g (across (suc b) n ws i) (s i)
 
--- k words that may be added
-pub record SmallAcross (b g n k : ℕ) (ws : List ℕ) : Type 0 where
+-- k words that may be added, and their first counter holds the counter c that enters
+pub record SmallAcross (b c n k : ℕ) (ws : List ℕ) : Type 0 where
   pub long : length ws ≡ k
-  pub each : (j : ℕ) → j < k → Small b g n (getD ws j 0)
+  pub each : (j : ℕ) → j < k → Small b n (getD ws j 0)
+  pub first : c ≤ across (suc b) n ws 0
 
--- One reading over the words ws, where the counter c enters and the counters of `adds` are added, gives the words rs: what each counter
+-- One reading over the words ws, where the counter c enters and each counter grows by its cost, gives the words rs: what each counter
 -- holds, and that with whatever sums the words agreed, they agree with them again. "Each reading moves the top counter of one word into
 -- the next": the counters are moved as if they stood in one word.
-pub record TurnedAcross (b g n : ℕ) (ws : List ℕ) (c : ℕ) (adds rs : List ℕ) : Type 0 where
+pub record TurnedAcross (b g n : ℕ) (ws : List ℕ) (c : ℕ) (cost : ℕ → ℕ) (rs : List ℕ) : Type 0 where
   pub long : length rs ≡ length ws
-  pub laid : LaidAcross (suc b) n rs (λ i. grown b (moved c (across (suc b) n ws) i) (across (suc b) n adds i))
-  pub agrees : (p : ℕ) (s : ℕ → ℕ) → Stands b g c p → AgreesAcross b g n ws s → AgreesAcross b g n rs (stepped (across (suc b) n adds) p s)
+  pub laid : LaidAcross (suc b) n rs (λ i. grown b (moved c (across (suc b) n ws) i) (cost i))
+  pub agrees : (p : ℕ) (s : ℕ → ℕ) → Stands b g c p → AgreesAcross b g n ws s → AgreesAcross b g n rs (stepped cost p s)

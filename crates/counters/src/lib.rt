@@ -5,9 +5,9 @@ ghost use mathlib.Core.Path.{_≡_};
 ghost use Prim.Native.Nat.{suc, _*_, _<_, _≤_, _^_};
 ghost use lib.ListN.{length};
 ghost use Rattle.counters.specs.Width.{lowBits};
-ghost use Rattle.counters.specs.Word.{wordBits, Laid};
-ghost use Rattle.counters.specs.Sums.{Small, Turned};
-ghost use Rattle.counters.specs.Words.{Whole, SmallAcross, TurnedAcross};
+ghost use Rattle.counters.specs.Word.{wordBits, counter, Laid};
+ghost use Rattle.counters.specs.Sums.{Small, Turned, costs};
+ghost use Rattle.counters.specs.Words.{across, Whole, SmallAcross, TurnedAcross};
 ghost use Rattle.counters.specs.Sound.{Sound, LaidOut};
 
 // A word of `per` counters with b low bits each, for sums up to g: the low bits and the top bit of every counter, and a counter at the
@@ -64,22 +64,25 @@ pub fn lay_out(b: u32, per: u32, g: u64) -> Masks
 // One reading over one word: every counter moves one up, `enters` comes in at the first, and the counters of `add` are added.
 // `d & k.low` takes the top bits out, so that no counter carries into its neighbour, and cuts off what left the last counter.
 fn step(k: Masks, word: u64, enters: u64, add: u64) -> u64
-    requires { ⌜ Sound k × (enters < 2 ^ suc (k .b)) × Small (k .b) (k .g) (k .per) add ⌝ }
-    ensures { λ r. ⌜ Turned (k .b) (k .g) (k .per) word enters add r ⌝ }
+    requires { ⌜ Sound k × (enters < 2 ^ suc (k .b)) × Small (k .b) (k .per) add ⌝ }
+    ensures { λ r. ⌜ Turned (k .b) (k .g) (k .per) word enters (counter (suc (k .b)) add) r ⌝ }
 {
     let d = (word << (k.b + 1)) | enters;
     ((d & k.low) + add) | (d & k.top)
 }
 
-// One reading over all words, as if they were one: `first` comes in at the first word, and what leaves a word at its top comes in at the next.
-pub fn step_words(k: Masks, words: &mut [u64], first: u64, adds: &[u64])
-    requires { ⌜ Sound k × (first < 2 ^ suc (k .b)) × Whole (suc (k .b)) (k .per) (now words)
-        × SmallAcross (k .b) (k .g) (k .per) (length (now words)) (now adds) ⌝ }
-    ensures { λ _. ⌜ TurnedAcross (k .b) (k .g) (k .per) (now (words .entry)) first (now (adds .entry)) (now (words .exit)) ⌝ }
+// One reading over all words, as if they were one: what leaves a word at its top comes in at the next. At the first word a counter at the sum 0
+// enters by being added: the additions hold it, so that no operation puts it in, for which the next reading would wait.
+pub fn step_words(k: Masks, words: &mut [u64], adds: &[u64])
+    requires { ⌜ Sound k × Whole (suc (k .b)) (k .per) (now words)
+        × SmallAcross (k .b) (k .enter) (k .per) (length (now words)) (now adds) ⌝ }
+    ensures { λ _. ⌜
+        TurnedAcross (k .b) (k .g) (k .per) (now (words .entry)) (k .enter)
+        (costs (k .enter) (across (suc (k .b)) (k .per) (now (adds .entry)))) (now (words .exit)) ⌝ }
 {
     let above = (k.b + 1) * (k.per - 1);
     let used = words.len();
-    let mut enters = first;
+    let mut enters: u64 = 0;
     let mut j: usize = 0;
     while j < used {
         let word = words[j];

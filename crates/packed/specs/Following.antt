@@ -16,17 +16,21 @@ use Rattle.counters.specs.declared.Masks.{Masks}
 use Rattle.adding.specs.Tables.{rowOf, costIn}
 use Rattle.packed.specs.Separate.{after}
 
--- the k words of each reading may be added to k words of n counters, of b low bits each
-pub record Addable (b g n k : ℕ) (t : List ℕ) : Type 0 where
+-- the k words of each reading may be added to k words of n counters, of b low bits each, and hold the counter c that enters
+pub record Addable (b c n k : ℕ) (t : List ℕ) : Type 0 where
   pub long : suc highest * k ≤ length t
-  pub each : (a : ℕ) → a < suc highest → SmallAcross b g n k (rowOf k t a)
+  pub each : (a : ℕ) → a < suc highest → SmallAcross b c n k (rowOf k t a)
+
+-- what the readings of the table cost at point i, in k words
+abbrev pub scanCost : Masks → ℕ → List ℕ → ℕ → ℕ → ℕ
+scanCost masks k t i a = costIn (suc (masks .b)) (masks .per) (masks .enter) k t i a
 
 -- what the scan goes by, for m points in k words
 pub record Scannable (masks : Masks) (m k : ℕ) (t y : List ℕ) : Type 0 where
   pub sound : Sound masks
   pub some : 1 ≤ m
   pub needed : Needed (masks .per) m k
-  pub addable : Addable (masks .b) (masks .g) (masks .per) k t
+  pub addable : Addable (masks .b) (masks .enter) (masks .per) k t
   pub short : length y ≤ maxReadings
   pub g-small : masks .g ≤ maxGamma
 
@@ -34,7 +38,7 @@ pub record Scannable (masks : Masks) (m k : ℕ) (t y : List ℕ) : Type 0 where
 -- last point, as the counters do; nothing is asked of them there.
 pub record Follows (masks : Masks) (k : ℕ) (t y words : List ℕ) (j : ℕ) : Type 0 where
   pub long : length words ≡ k
-  pub agrees : AgreesAcross (masks .b) (masks .g) (masks .per) words (after (masks .g) (costIn (suc (masks .b)) (masks .per) k t) y j)
+  pub agrees : AgreesAcross (masks .b) (masks .g) (masks .per) words (after (masks .g) (scanCost masks k t) y j)
 
 -- a counter that is a sum and what it started at, where a 16-bit number holds the sum
 pub record Short (enter c : ℕ) : Type 0 where
@@ -47,7 +51,7 @@ summing cost = record { fit = λ i a. true; cost = cost }
 
 -- what the counter of point m tells of every window: whether its sum, by the table, is at most g, and then the sum
 abbrev pub soughtIn : Masks → ℕ → ℕ → List ℕ → List ℕ → Sought
-soughtIn masks m k t y = soughtBy (summing (costIn (suc (masks .b)) (masks .per) k t)) m (masks .g) y
+soughtIn masks m k t y = soughtBy (summing (scanCost masks k t)) m (masks .g) y
 
 -- the answer of a scan that has just begun: what is told so, and every window tried
 abbrev pub Scans : Masks → ℕ → ℕ → List ℕ → List ℕ → Lent → Search → Lent → Type 0

@@ -44,6 +44,6 @@ pub fn search(
     let k = counters::lay_out(b, WORD_BITS / (b + 1), g as u64);
     let per = k.per as usize;
     let used = (m + (per - 1)) / per;
-    adding::additions(points, per, used, b + 1, d, g as u64, &mut table);
+    adding::additions(points, per, used, b + 1, d, g as u64, k.enter, &mut table);
     scan::scan(k, m, used, &table, recording, list, sums, begun)
 }

@@ -10,21 +10,20 @@ ghost use Rattle.fit.specs.Answer.{lent, begun};
 ghost use Rattle.counters.specs.Word.{counter};
 ghost use Rattle.counters.specs.Words.{Whole, TurnedAcross};
 ghost use Rattle.counters.specs.Sound.{Sound};
-ghost use Rattle.adding.specs.Tables.{rowOf};
-ghost use Rattle.packed.specs.Following.{Addable, Scannable, Follows, Short, Scans};
+ghost use Rattle.packed.specs.Following.{Addable, scanCost, Scannable, Follows, Short, Scans};
 ghost use Rattle.packed.specs.Needs.{maxWords};
 
-// The words after reading a: a counter enters at point 1, and the table's words are added.
+// The words after reading a: the table's words are added, and with them a counter enters at point 1.
 fn read_one(k: Masks, table: &[u64], words: &mut [u64], a: u8)
-    requires { ⌜ Sound k × Addable (k .b) (k .g) (k .per) (length (now words)) (now table) × Whole (suc (k .b)) (k .per) (now words) ⌝ }
+    requires { ⌜ Sound k × Addable (k .b) (k .enter) (k .per) (length (now words)) (now table) × Whole (suc (k .b)) (k .per) (now words) ⌝ }
     ensures { λ _. ⌜
         TurnedAcross (k .b) (k .g) (k .per) (now (words .entry)) (k .enter)
-        (rowOf (length (now (words .entry))) (now (table .entry)) a) (now (words .exit)) ⌝ }
+        (λ i. scanCost k (length (now (words .entry))) (now (table .entry)) i a) (now (words .exit)) ⌝ }
 {
     let used = words.len();
     let from = reading::index(a) * used;
     let to = from + used;
-    counters::step_words(k, words, k.enter, &table[from..to]);
+    counters::step_words(k, words, &table[from..to]);
 }
 
 // Reads the readings that end no window, so that none of them is asked for one, and answers how many they are. Before them all counters are

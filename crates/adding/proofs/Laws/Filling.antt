@@ -3,7 +3,7 @@ use mathlib.Core.Path.{_≡_, refl, sym, ap, _∙_}
 use mathlib.Core.Logic.{⊎-elim}
 use mathlib.Core.List.{List}
 use Prim.Native.Nat.{ℕ, zero, suc, min, _+_, _-_, _*_, _/_, _%_, _^_, _≤_, _<_}
-use native.Mathlib.Nat.{le-trans, lt-of-lt-of-le, mul-le-mul, mul-le-mul-left, mul-le-mul-right, one-mul, add-sub-cancel-left, sub-self, sub-zero, zero-add}
+use native.Mathlib.Nat.{le-trans, lt-of-lt-of-le, mul-le-mul, mul-le-mul-left, mul-le-mul-right, one-mul, add-sub-cancel-left, sub-self, sub-zero, zero-add, zero-mul}
 use native.Mathlib.Omega.{arith}
 use lib.Arith.{digits-lt, digits-div, digits-mod}
 use lib.Bits.{bitOr}
@@ -14,11 +14,13 @@ use borrow.Author.Tests.{lt-ltb, le-ltb}
 use Rattle.fit.specs.Reading.{highest}
 use Rattle.fit.specs.Refusal.{maxPoints}
 use Rattle.counters.specs.Word.{wordBits, Laid}
-use Rattle.counters.specs.Sums.{moved}
+use Rattle.counters.specs.Sums.{moved, entering}
 use Rattle.counters.proofs.Laws.Widths.{le-or-lt}
-use Rattle.counters.proofs.Laws.Laying.{laid-none, laid-same, laid-more, laid-wider}
-use Rattle.counters.proofs.Laws.Ends.{moved-first, moved-next}
+use Rattle.counters.proofs.Laws.Laying.{laid-none, laid-same, laid-more, laid-wider, laid-entering}
+use Rattle.counters.proofs.Laws.Ends.{moved-first, moved-next, entering-next, costs-is}
 use Rattle.counters.proofs.Laws.Across.{laid-across}
+use Rattle.counters.specs.Words.{across}
+use Rattle.adding.specs.Costs.{withEntering}
 use Rattle.adding.specs.Tables.{rowOf, costIn, padded, Tabled, TabledIn}
 
 -- ---- a word: the points from i on are laid
@@ -51,7 +53,7 @@ module _ (l m : ℕ) (f : ℕ → ℕ) where
 
 -- ---- costs at the points, and 0 behind them
 module _ (m : ℕ) (f : ℕ → ℕ) (i : ℕ) where
-  padded-below : i < m → padded m f i ≡ f i
+  pub padded-below : i < m → padded m f i ≡ f i
   unfolding padded
   padded-below h = rw (lt-ltb i m h)
 
@@ -61,6 +63,30 @@ module _ (m : ℕ) (f : ℕ → ℕ) (i : ℕ) where
 
   pub padded-small : (most : ℕ) → f i ≤ most → padded m f i ≤ most
   padded-small most h = ⊎-elim (λ (l : m ≤ i). omega (arith, padded-above l)) (λ (l : i < m). omega (arith, padded-below l)) (le-or-lt m i)
+
+-- ---- and with the counter c that enters at point 1
+module _ (m : ℕ) (f : ℕ → ℕ) (c : ℕ) (points : 1 ≤ m) where
+  padded-entering : (i : ℕ) → entering c i + padded m f i ≡ padded m (λ p. entering c p + f p) i
+  padded-entering i =
+      ⊎-elim
+      (λ (l : m ≤ i). omega (arith, padded-above m f i l, padded-above m (λ p. entering c p + f p) i l, entering-next c i (omega arith)))
+      (λ (l : i < m). omega (arith, padded-below m f i l, padded-below m (λ p. entering c p + f p) i l))
+      (le-or-lt m i)
+
+  module _ (l n w j : ℕ) (some : 1 ≤ n) (laid : Laid l n w (λ t. padded m f (j * n + t))) where
+    -- it is added to the first word
+    pub first-entered : j ≡ 0 → c + f 0 < 2 ^ l → Laid l n (w + c) (λ t. padded m (λ p. entering c p + f p) (j * n + t))
+    first-entered e fits =
+        let here : (t : ℕ) → j * n + t ≡ t = λ t. rw (e, zero-mul, zero-add) in
+        laid-same l (laid-entering l n w c (λ t. padded m f (j * n + t)) some (rw (here 0, padded-below m f 0 points) fits) laid)
+        (λ t _. rw (here t) (padded-entering t))
+
+    -- and to no other
+    pub next-entered : 1 ≤ j → Laid l n w (λ t. padded m (λ p. entering c p + f p) (j * n + t))
+    next-entered later = laid-same l laid (λ t _. same t)
+      where
+        same : (t : ℕ) → padded m f (j * n + t) ≡ padded m (λ p. entering c p + f p) (j * n + t)
+        same t = omega (arith, padded-entering (j * n + t), entering-next c (j * n + t) (omega (arith, mul-le-mul later some)))
 
 -- ---- the word of n counters that begins at point o: a part of the profile is laid, and what is left of the word is 0
 module _ (x : List ℕ) (o n from to : ℕ) (from-is : from ≡ min o (length x)) (to-is : to ≡ min (o + n) (length x)) where
@@ -145,7 +171,10 @@ module _ (l n k m : ℕ) (cost : ℕ → ℕ → ℕ) (entry : List ℕ) where
           h .each (a * k + j) (lt-of-lt-of-le (digits-lt byte inside) all) in
           rw (row-at k t a long byte j inside) (rw (digits-div a inside, digits-mod a inside) at at)
 
--- what the table has at the points
-pub costs-tabled : (l n k m : ℕ) (cost : ℕ → ℕ → ℕ) (t : List ℕ) → Tabled l n k m cost t → m ≤ k * n → (i a : ℕ) → i < m → a < suc highest → costIn l n k t i a ≡ cost i a
-costs-tabled l n k m cost t h room i a below byte =
-    h .each a byte .each i (rw (row-length k t a (h .long) byte) (lt-of-lt-of-le below room)) ∙ padded-below m (λ p. cost p a) i below
+-- what the words of a reading cost at the points, where the entering counter c is in them too
+pub costs-tabled : (l n c k m : ℕ) (cost : ℕ → ℕ → ℕ) (t : List ℕ) → Tabled l n k m (withEntering c cost) t → m ≤ k * n → (i a : ℕ) → i < m → a < suc highest
+    → costIn l n c k t i a ≡ cost i a
+costs-tabled l n c k m cost t h room i a below byte =
+    costs-is c (across l n (rowOf k t a)) i
+    ∙ omega
+    (arith, h .each a byte .each i (rw (row-length k t a (h .long) byte) (lt-of-lt-of-le below room)), padded-below m (λ p. withEntering c cost p a) i below)

@@ -3,22 +3,29 @@
 use mathlib.Core.Path.{_≡_, refl, sym, ap, ap₂, _∙_, subst}
 use mathlib.Core.Logic.{_↔_}
 use mathlib.Core.List.{List, [], _∷_}
-use Prim.Native.Nat.{ℕ, zero, suc, _+_, _-_, _*_, _/_, _%_, _≤_, _<_}
-use native.Mathlib.Nat.{add-zero, add-suc, zero-mul, zero-add, div-add-mod', mod-lt, div-lt-iff-lt-mul, mul-le-mul-right, le-of-lt}
+use Prim.Native.Nat.{ℕ, zero, suc, _+_, _-_, _*_, _/_, _%_, _^_, _≤_, _<_}
+use native.Mathlib.Nat.{add-zero, add-suc, sub-zero, zero-mul, zero-add, div-add-mod', mod-lt, div-lt-iff-lt-mul}
 use native.Mathlib.Omega.{arith}
-use lib.Arith.{digits-lt, digits-div, digits-mod}
+use lib.Arith.{digits-div, digits-mod}
 use lib.ListN.{length, getD}
 use Rattle.counters.specs.Word.{counter, Laid}
-use Rattle.counters.specs.Sums.{Stands, Agrees, moved, stepped, grown, Turned}
+use Rattle.counters.specs.Sums.{Stands, Agrees, moved, stepped, grown, Turned, costs}
 use Rattle.counters.specs.Words.{across, LaidAcross, AgreesAcross, TurnedAcross}
 use Rattle.counters.proofs.Laws.Laying.{laid-same}
-use Rattle.counters.proofs.Laws.Ends.{moved-first, moved-next, stepped-is}
+use Rattle.counters.proofs.Laws.Fields.{counter-lt}
+use Rattle.counters.proofs.Laws.Growth.{below, grown-stands}
+use Rattle.counters.proofs.Laws.Ends.{moved-first, moved-next, stepped-is, entering-first, entering-next, costs-is}
 
 module _ (l n : ℕ) where
   -- which counter of which word it is
   pub across-is : (ws : List ℕ) (i : ℕ) → across l n ws i ≡ counter l (getD ws (i / n) 0) (i % n)
   unfolding across
   across-is ws i = refl
+
+  -- it is a counter
+  pub across-lt : (ws : List ℕ) (i : ℕ) → across l n ws i < 2 ^ l
+  unfolding across
+  across-lt ws i = counter-lt l (getD ws (i / n) 0) (i % n)
 
   -- counter t of word j is counter j * n + t of the words
   pub across-at : (ws : List ℕ) (j t : ℕ) → t < n → across l n ws (j * n + t) ≡ counter l (getD ws j 0) t
@@ -39,12 +46,7 @@ module _ (l n : ℕ) where
     each = each-across some (λ i c. c ≡ f i) ws (λ j t k r. h j k .each t r);
   }
 
--- moving the counters from o on, with what stands before them entering, is moving them all
-moved-onward : (p o : ℕ) (s : ℕ → ℕ) (i : ℕ) → moved (moved p s o) (λ t. s (o + t)) i ≡ moved p s (o + i)
-moved-onward p o s zero = moved-first (moved p s o) (λ t. s (o + t)) ∙ sym (ap (moved p s) (add-zero o))
-moved-onward p o s (suc i) = moved-next (moved p s o) (λ t. s (o + t)) i ∙ sym (moved-next p s (o + i)) ∙ sym (ap (moved p s) (add-suc o i))
-
--- and so within word j of the words
+-- moving the counters of word j, with what stands before them entering, is moving them all
 moved-within : (l n c : ℕ) (ws : List ℕ) (j t : ℕ) → t < n
     → moved (moved c (across l n ws) (j * n)) (counter l (getD ws j 0)) t ≡ moved c (across l n ws) (j * n + t)
 moved-within l n c ws j zero h =
@@ -55,52 +57,50 @@ moved-within l n c ws j (suc t) h =
     ∙ sym (moved-next c (across l n ws) (j * n + t))
     ∙ sym (ap (moved c (across l n ws)) (add-suc (j * n) t))
 
-module _ (b g n : ℕ) (some : 1 ≤ n) where
-  -- the sums of word j are those from j * n on
-  word-agrees : (ws : List ℕ) (s : ℕ → ℕ) → AgreesAcross b g n ws s → (j : ℕ) → j < length ws → Agrees b g n (getD ws j 0) (λ t. s (j * n + t))
-  word-agrees ws s a j h = record {
-    bound = a .whole .bound j h;
-    each = λ t k. subst (λ (c : ℕ). Stands b g c (s (j * n + t))) (across-at (suc b) n ws j t k) (a .each (j * n + t) (digits-lt h k));
-  }
+-- one counter of b low bits, where c enters by being added: nothing that grows by c and a cost is c that grows by the cost
+folded-in : (b g c : ℕ) (adds f : ℕ → ℕ) → c < 2 ^ b → c ≤ adds 0 → (i : ℕ) → grown b (moved 0 f i) (adds i) ≡ grown b (moved c f i) (costs c adds i)
+folded-in b g c adds f cl first zero =
+    rw (moved-first 0 f, moved-first c f, costs-is c adds 0, entering-first c)
+    (below b g 0 (adds 0) (omega arith) ∙ omega arith ∙ sym (below b g c (adds 0 - c) cl))
+folded-in b g c adds f cl first (suc i) =
+    rw (moved-next 0 f i, moved-next c f i, costs-is c adds (suc i), entering-next c (suc i) (omega arith), sub-zero)
 
+module _ (b g n : ℕ) (some : 1 ≤ n) where
   pub agrees-across : (ws : List ℕ) (s : ℕ → ℕ) → ((j : ℕ) → j < length ws → Agrees b g n (getD ws j 0) (λ t. s (j * n + t))) → AgreesAcross b g n ws s
   agrees-across ws s h = record {
     whole = record { bound = λ j k. h j k .bound };
     each = each-across (suc b) n some (λ i c. Stands b g c (s i)) ws (λ j t k r. h j k .each t r);
   }
 
-  -- ---- one reading: each word turned, with the counter entering it that left the word before, is all of them turned
-  module _ (ws : List ℕ) (c : ℕ) (adds rs : List ℕ) (long : length rs ≡ length ws)
-      (each : (j : ℕ) → j < length ws → Turned b g n (getD ws j 0) (moved c (across (suc b) n ws) (j * n)) (getD adds j 0) (getD rs j 0)) where
-    all-laid : LaidAcross (suc b) n rs (λ i. grown b (moved c (across (suc b) n ws) i) (across (suc b) n adds i))
-    all-laid =
-        laid-across (suc b) n some rs _
-        (λ j h. laid-same (suc b) (each j (rw (← long) h) .laid)
-        (λ t k. ap₂ (λ (x y : ℕ). grown b x y) (moved-within (suc b) n c ws j t k) (sym (across-at (suc b) n adds j t k))))
+  -- ---- one reading: words that hold what they should agree with the sums again
+  module _ (ws : List ℕ) (c : ℕ) (cost : ℕ → ℕ) (rs : List ℕ) (long : length rs ≡ length ws) (cl : c < 2 ^ suc b)
+      (laid : LaidAcross (suc b) n rs (λ i. grown b (moved c (across (suc b) n ws) i) (cost i))) where
+    laid-agrees : (p : ℕ) (s : ℕ → ℕ) → Stands b g c p → AgreesAcross b g n ws s → AgreesAcross b g n rs (stepped cost p s)
+    laid-agrees p s cs a = record {
+      whole = laid .whole;
+      each = λ i h. rw (laid .each i h)
+          (grown-stands b g (across (suc b) n ws) c cost p s (length ws * n) (across-lt (suc b) n ws) cl cs (a .each) i (rw (← long) h));
+    }
 
-    module _ (p : ℕ) (s : ℕ → ℕ) (cs : Stands b g c p) (a : AgreesAcross b g n ws s) where
-      -- what enters a word stands for the sum before it
-      entering : (i : ℕ) → i ≤ length ws * n → Stands b g (moved c (across (suc b) n ws) i) (moved p s i)
-      entering zero h = rw (moved-first c (across (suc b) n ws), moved-first p s) cs
-      entering (suc i) h = rw (moved-next c (across (suc b) n ws) i, moved-next p s i) (a .each i h)
+    pub laid-turned : TurnedAcross b g n ws c cost rs
+    laid-turned = record { long = long; laid = laid; agrees = laid-agrees }
 
-      sum-onward : (j t : ℕ) → t < n
-          → stepped (counter (suc b) (getD adds j 0)) (moved p s (j * n)) (λ i. s (j * n + i)) t ≡ stepped (across (suc b) n adds) p s (j * n + t)
-      sum-onward j t k =
-          stepped-is (counter (suc b) (getD adds j 0)) (moved p s (j * n)) (λ i. s (j * n + i)) t
-          ∙ ap₂ (λ (x y : ℕ). x + y) (moved-onward p (j * n) s t) (sym (across-at (suc b) n adds j t k))
-          ∙ sym (stepped-is (across (suc b) n adds) p s (j * n + t))
+  -- each word turned, with the counter entering it that left the word before, is all of them turned
+  pub all-turned : (ws : List ℕ) (c : ℕ) (adds rs : List ℕ) → length rs ≡ length ws → c < 2 ^ suc b
+      → ((j : ℕ) → j < length ws → Turned b g n (getD ws j 0) (moved c (across (suc b) n ws) (j * n)) (counter (suc b) (getD adds j 0)) (getD rs j 0))
+      → TurnedAcross b g n ws c (across (suc b) n adds) rs
+  all-turned ws c adds rs long cl each =
+      laid-turned ws c (across (suc b) n adds) rs long cl
+      (laid-across (suc b) n some rs _
+      (λ j h. laid-same (suc b) (each j (rw (← long) h) .laid)
+      (λ t k. ap₂ (λ (x y : ℕ). grown b x y) (moved-within (suc b) n c ws j t k) (sym (across-at (suc b) n adds j t k)))))
 
-      all-agree : AgreesAcross b g n rs (stepped (across (suc b) n adds) p s)
-      all-agree =
-          agrees-across rs _
-          (λ j h.
-          let inside : j < length ws = rw (← long) h in
-          let word = each j inside .agrees (moved p s (j * n)) (λ t. s (j * n + t)) (entering (j * n) (mul-le-mul-right n (le-of-lt inside))) (word-agrees ws s a j inside) in
-          record { bound = word .bound; each = λ t k. subst (Stands b g (counter (suc b) (getD rs j 0) t)) (sum-onward j t k) (word .each t k) })
-
-    pub all-turned : TurnedAcross b g n ws c adds rs
-    all-turned = record { long = long; laid = all-laid; agrees = all-agree }
+  -- and so where the entering counter c is added: nothing comes in at the first word, whose additions hold c
+  pub turned-folded : (ws : List ℕ) (c : ℕ) (adds : ℕ → ℕ) (rs : List ℕ) → c < 2 ^ b → c ≤ adds 0 → TurnedAcross b g n ws 0 adds rs
+      → TurnedAcross b g n ws c (costs c adds) rs
+  turned-folded ws c adds rs cl first h =
+      laid-turned ws c (costs c adds) rs (h .long) (omega arith)
+      (record { whole = h .laid .whole; each = λ i l. h .laid .each i l ∙ folded-in b g c adds (across (suc b) n ws) cl first i })
 
   -- ---- a list of one: what is said of the words is what is said of the word
   module _ (w : ℕ) where
@@ -122,11 +122,11 @@ module _ (b g n : ℕ) (some : 1 ≤ n) where
         only a (suc j) h = absurd (omega arith)
 
   -- and so is its step: the law of one word says of it what the law of all words says of a list of one
-  pub one-turned : (w c add r : ℕ) → Turned b g n w c add r ↔ TurnedAcross b g n (w ∷ []) c (add ∷ []) (r ∷ [])
-  one-turned w c add r = (λ h. all-turned (w ∷ []) c (add ∷ []) (r ∷ []) refl (only h), λ h. record { laid = laid h; agrees = agrees h })
+  pub one-turned : (w c add r : ℕ) → c < 2 ^ suc b → Turned b g n w c (counter (suc b) add) r ↔ TurnedAcross b g n (w ∷ []) c (across (suc b) n (add ∷ [])) (r ∷ [])
+  one-turned w c add r cl = (λ h. all-turned (w ∷ []) c (add ∷ []) (r ∷ []) refl cl (only h), λ h. record { laid = laid h; agrees = agrees h })
     where
-      only : Turned b g n w c add r → (j : ℕ) → j < 1
-          → Turned b g n (getD (w ∷ []) j 0) (moved c (across (suc b) n (w ∷ [])) (j * n)) (getD (add ∷ []) j 0) (getD (r ∷ []) j 0)
+      only : Turned b g n w c (counter (suc b) add) r → (j : ℕ) → j < 1
+          → Turned b g n (getD (w ∷ []) j 0) (moved c (across (suc b) n (w ∷ [])) (j * n)) (counter (suc b) (getD (add ∷ []) j 0)) (getD (r ∷ []) j 0)
       only h zero k = rw (zero-mul, moved-first c (across (suc b) n (w ∷ []))) h
       only h (suc j) k = absurd (omega arith)
 
@@ -135,13 +135,13 @@ module _ (b g n : ℕ) (some : 1 ≤ n) where
       moved-one (suc t) k =
           moved-next c (across (suc b) n (w ∷ [])) t ∙ one-counter w t (omega arith) ∙ sym (moved-next c (counter (suc b) w) t)
 
-      laid : TurnedAcross b g n (w ∷ []) c (add ∷ []) (r ∷ []) → Laid (suc b) n r (λ i. grown b (moved c (counter (suc b) w) i) (counter (suc b) add i))
+      laid : TurnedAcross b g n (w ∷ []) c (across (suc b) n (add ∷ [])) (r ∷ []) → Laid (suc b) n r (λ i. grown b (moved c (counter (suc b) w) i) (counter (suc b) add i))
       laid h = record {
         bound = h .laid .whole .bound 0 (omega arith);
         each = λ t k. sym (one-counter r t k) ∙ h .laid .each t (all-of-one r t k) ∙ ap₂ (λ (x y : ℕ). grown b x y) (moved-one t k) (one-counter add t k);
       }
 
-      agrees : TurnedAcross b g n (w ∷ []) c (add ∷ []) (r ∷ []) → (p : ℕ) (s : ℕ → ℕ) → Stands b g c p → Agrees b g n w s
+      agrees : TurnedAcross b g n (w ∷ []) c (across (suc b) n (add ∷ [])) (r ∷ []) → (p : ℕ) (s : ℕ → ℕ) → Stands b g c p → Agrees b g n w s
           → Agrees b g n r (stepped (counter (suc b) add) p s)
       agrees h p s cs a =
           let after = one-agrees r (stepped (across (suc b) n (add ∷ [])) p s) .1 (h .agrees p s cs (one-agrees w s .0 a)) in

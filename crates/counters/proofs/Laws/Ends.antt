@@ -1,14 +1,14 @@
 -- How the counters begin, and what the last one tells. Assumes nothing.
 use mathlib.Core.Path.{_≡_, refl, sym, ap, _∙_}
 use mathlib.Core.Logic.{_↔_, ⊎-elim}
-use Prim.Native.Nat.{ℕ, suc, _+_, _-_, _*_, _/_, _%_, _^_, _≤_, _<_}
+use Prim.Native.Nat.{ℕ, zero, suc, _+_, _-_, _*_, _/_, _%_, _^_, _≤_, _<_}
 use native.Mathlib.Nat.{mul-suc, add-comm, zero-mul, div-eq-of-lt, div-eq-of-lt-le}
 use native.Mathlib.Numerals.{add-one}
 use native.Mathlib.Omega.{arith}
 use lib.Pow.{shr-mod, shr-shr, field, pow-pos}
 use lib.Bits.{bitAnd}
 use Rattle.counters.specs.Word.{wordBits, counter, Laid}
-use Rattle.counters.specs.Sums.{Stands, Agrees, moved, stepped}
+use Rattle.counters.specs.Sums.{Stands, Agrees, moved, stepped, entering, costs}
 use Rattle.counters.proofs.Laws.Widths.{le-or-lt}
 use Rattle.counters.proofs.Laws.Fields.{counter-lt}
 use Rattle.counters.proofs.Laws.Growth.{top-bit}
@@ -25,6 +25,25 @@ moved-next p s i = refl
 pub stepped-is : (cost : ℕ → ℕ) (p : ℕ) (s : ℕ → ℕ) (i : ℕ) → stepped cost p s i ≡ moved p s i + cost i
 unfolding stepped
 stepped-is cost p s i = refl
+
+-- a counter that enters by being added, and what additions cost that hold it
+pub entering-first : (c : ℕ) → entering c 0 ≡ c
+unfolding entering
+entering-first c = refl
+
+pub entering-next : (c i : ℕ) → 1 ≤ i → entering c i ≡ 0
+unfolding entering
+entering-next c zero h = absurd (omega arith)
+entering-next c (suc i) h = refl
+
+pub entering-le : (c i : ℕ) → entering c i ≤ c
+unfolding entering
+entering-le c zero = omega arith
+entering-le c (suc i) = omega arith
+
+pub costs-is : (c : ℕ) (adds : ℕ → ℕ) (i : ℕ) → costs c adds i ≡ adds i - entering c i
+unfolding costs
+costs-is c adds i = refl
 
 module _ (b g m : ℕ) where
   -- "One that enters at point 1 starts at 2^b - (g + 1)": it stands for the sum 0

@@ -33,5 +33,5 @@ no-second-words l n ws vs f e h h′ =
     (λ j k. same-words l n (getD ws j 0) (getD vs j 0) (h .whole .bound j k) (h′ .whole .bound j (rw (← e) k))
     (λ t r. sym (across-at l n ws j t r) ∙ h .each (j * n + t) (digits-lt k r) ∙ sym (h′ .each (j * n + t) (digits-lt (rw (← e) k) r)) ∙ across-at l n vs j t r))
 
-pub no-second-step : (b g n : ℕ) (ws : List ℕ) (c : ℕ) (adds rs rs′ : List ℕ) → TurnedAcross b g n ws c adds rs → TurnedAcross b g n ws c adds rs′ → rs ≡ rs′
-no-second-step b g n ws c adds rs rs′ h h′ = no-second-words (suc b) n rs rs′ _ (h .long ∙ sym (h′ .long)) (h .laid) (h′ .laid)
+pub no-second-step : (b g n : ℕ) (ws : List ℕ) (c : ℕ) (cost : ℕ → ℕ) (rs rs′ : List ℕ) → TurnedAcross b g n ws c cost rs → TurnedAcross b g n ws c cost rs′ → rs ≡ rs′
+no-second-step b g n ws c cost rs rs′ h h′ = no-second-words (suc b) n rs rs′ _ (h .long ∙ sym (h′ .long)) (h .laid) (h′ .laid)

@@ -24,13 +24,13 @@ word-grown d lows tops a = bitOr (bitAnd d lows + a) (bitAnd d tops)
 pub top-bit : (b c : ℕ) → bitAnd c (2 ^ b) ≡ (c / 2 ^ b % 2) * 2 ^ b
 top-bit b c = ap (bitAnd c) (omega (arith, pow-add 2 1 b)) ∙ and-high c 1 b
 
-module _ (b g : ℕ) (room : g < 2 ^ b) where
+module _ (b g : ℕ) where
   -- no carry out of the counter
-  no-carry : (c a : ℕ) → a ≤ g + 1 → bitAnd c (2 ^ b - 1) + a < 2 ^ suc b
+  no-carry : (c a : ℕ) → a ≤ 2 ^ b → bitAnd c (2 ^ b - 1) + a < 2 ^ suc b
   no-carry c a h = omega (arith, and-mask c b, mod-lt c (pow-pos b))
 
   -- with its top bit clear it takes the whole addition, and with its top bit set it keeps it
-  below : (c a : ℕ) → c < 2 ^ b → grown b c a ≡ c + a
+  pub below : (c a : ℕ) → c < 2 ^ b → grown b c a ≡ c + a
   below c a h =
       let lows : bitAnd c (2 ^ b - 1) ≡ c = and-mask c b ∙ mod-eq-of-lt h in
       let tops : bitAnd c (2 ^ b) ≡ 0 = top-bit b c ∙ ap (λ (n : ℕ). n % 2 * 2 ^ b) (div-eq-of-lt h) ∙ zero-mul (2 ^ b) in
@@ -43,8 +43,8 @@ module _ (b g : ℕ) (room : g < 2 ^ b) where
       let y : ℕ = bitAnd c (2 ^ b - 1) + a in
       rw tops (omega (arith, or-add-and y (2 ^ b), and-le-l y (2 ^ b)))
 
-  pub stands-step : (c a p : ℕ) → c < 2 ^ suc b → a ≤ g + 1 → Stands b g c p → Stands b g (grown b c a) (p + a)
-  stands-step c a p hc ha s = ⊎-elim under past (le-or-lt p g)
+  stands-step : (c a p : ℕ) → c < 2 ^ suc b → Stands b g c p → Stands b g (grown b c a) (p + a)
+  stands-step c a p hc s = ⊎-elim under past (le-or-lt p g)
     where
       under : p ≤ g → Stands b g (grown b c a) (p + a)
       under h =
@@ -56,9 +56,16 @@ module _ (b g : ℕ) (room : g < 2 ^ b) where
           let e : 2 ^ b ≤ grown b c a = over c a (s .top .1 h) hc in
           record { top = ((λ k. omega arith), (λ k. e)); low = λ k. absurd (omega arith) }
 
+  -- counters f that stand for the sums s, below k: moved one up, with c entering, and grown, they stand for the sums moved up and grown
+  pub grown-stands : (f : ℕ → ℕ) (c : ℕ) (cost : ℕ → ℕ) (p : ℕ) (s : ℕ → ℕ) (k : ℕ) → ((i : ℕ) → f i < 2 ^ suc b) → c < 2 ^ suc b
+      → Stands b g c p → ((i : ℕ) → i < k → Stands b g (f i) (s i)) → (i : ℕ) → i < k → Stands b g (grown b (moved c f i) (cost i)) (stepped cost p s i)
+  unfolding moved stepped
+  grown-stands f c cost p s k fl cl cs fs zero h = stands-step c (cost 0) p cl cs
+  grown-stands f c cost p s k fl cl cs fs (suc i) h = stands-step (f i) (cost (suc i)) (s i) (fl i) (fs i (omega arith))
+
   -- ---- the word
   module _ (m k lows tops a : ℕ) (fit : suc b * m ≤ k) (hl : Laid (suc b) m lows (λ _. 2 ^ b - 1)) (ht : Laid (suc b) m tops (λ _. 2 ^ b))
-      (small : Small b g m a) where
+      (small : Small b m a) where
     low-counter : (d i : ℕ) → i < m → counter (suc b) (bitAnd d lows) i ≡ bitAnd (counter (suc b) d i) (2 ^ b - 1)
     low-counter d i h = counter-and (suc b) d lows i ∙ ap (bitAnd (counter (suc b) d i)) (hl .each i h)
 
@@ -96,24 +103,13 @@ module _ (b g : ℕ) (room : g < 2 ^ b) where
         each = λ i h. grown-counter (raised (suc b) k w c) i h ∙ ap (λ (n : ℕ). grown b n (counter (suc b) a i)) (raised-counter i h);
       }
 
-      moved-lt : (i : ℕ) → moved c (counter (suc b) w) i < 2 ^ suc b
-      unfolding moved
-      moved-lt zero = cl
-      moved-lt (suc i) = counter-lt (suc b) w i
-
-      moved-stands : (p : ℕ) (s : ℕ → ℕ) → Stands b g c p → Agrees b g m w s → (i : ℕ) → i < m → Stands b g (moved c (counter (suc b) w) i) (moved p s i)
-      unfolding moved
-      moved-stands p s cs ws zero h = cs
-      moved-stands p s cs ws (suc i) h = ws .each i (omega arith)
-
       turned-agrees : (p : ℕ) (s : ℕ → ℕ) → Stands b g c p → Agrees b g m w s
           → Agrees b g m (word-grown (raised (suc b) k w c) lows tops a) (stepped (counter (suc b) a) p s)
-      unfolding stepped
       turned-agrees p s cs ws = record {
         bound = turned-laid .bound;
         each = λ i h. rw (turned-laid .each i h)
-            (stands-step (moved c (counter (suc b) w) i) (counter (suc b) a i) (moved p s i) (moved-lt i) (small .each i h) (moved-stands p s cs ws i h));
+            (grown-stands (counter (suc b) w) c (counter (suc b) a) p s m (counter-lt (suc b) w) cl cs (ws .each) i h);
       }
 
-      pub turned : Turned b g m w c a (word-grown (raised (suc b) k w c) lows tops a)
+      pub turned : Turned b g m w c (counter (suc b) a) (word-grown (raised (suc b) k w c) lows tops a)
       turned = record { laid = turned-laid; agrees = turned-agrees }

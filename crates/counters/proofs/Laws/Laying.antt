@@ -1,16 +1,16 @@
 -- A word laid out counter by counter, each put in below the others. Assumes nothing.
-use mathlib.Core.Path.{_≡_, refl, sym, ap, _∙_}
+use mathlib.Core.Path.{_≡_, refl, sym, ap, ap₂, _∙_}
 use mathlib.Core.Logic.{⊎-elim}
 use Prim.Native.Nat.{ℕ, zero, suc, _+_, _*_, _%_, _^_, _≤_, _<_}
-use native.Mathlib.Nat.{mul-suc, le-trans, le-of-eq, lt-of-lt-of-le, not-suc-le-zero, mul-le-mul-left}
+use native.Mathlib.Nat.{mul-one, mul-suc, add-comm, le-trans, le-of-eq, lt-of-lt-of-le, not-suc-le-zero, mul-le-mul-left}
 use native.Mathlib.Omega.{arith}
 use lib.Arith.{digits-lt}
 use lib.Pow.{pow-pos, pow-mono, pow-add, shl-exact}
 use lib.Bits.{bitOr, or-shifted}
 use Rattle.counters.specs.Word.{wordBits, counter, Laid}
-use Rattle.counters.specs.Sums.{moved}
+use Rattle.counters.specs.Sums.{moved, entering}
 use Rattle.counters.proofs.Laws.Widths.{le-or-lt}
-use Rattle.counters.proofs.Laws.Fields.{counter-above, first, later, same-words}
+use Rattle.counters.proofs.Laws.Fields.{counter-lt, counter-above, counter-add, add-lt, first, later, same-words}
 
 module _ (l : ℕ) where
   pub laid-none : (f : ℕ → ℕ) → Laid l 0 0 f
@@ -51,6 +51,25 @@ module _ (l : ℕ) where
       each : (i : ℕ) → i < suc m → counter l (w * 2 ^ l + v) i ≡ moved v f i
       each zero h = first l w hv
       each (suc i) h = later l w i hv ∙ laid .each i (omega arith)
+
+  -- a counter c that is added at the first, where it fits: the others stay as they were
+  pub laid-entering : (m w c : ℕ) (f : ℕ → ℕ) → 1 ≤ m → c + f 0 < 2 ^ l → Laid l m w f → Laid l m (w + c) (λ i. entering c i + f i)
+  unfolding entering
+  laid-entering m w c f some fits laid = record {
+    bound = add-lt l w c m (laid .bound) (lt-of-lt-of-le below (pow-mono (mul-le-mul-left l some))) no-carry;
+    each = λ i h. counter-add l w c i (λ j k. no-carry j (omega arith)) ∙ ap₂ (λ (x y : ℕ). x + y) (laid .each i h) (only i) ∙ add-comm (f i) (entering c i);
+  }
+    where
+      below : c < 2 ^ (l * 1)
+      below = rw mul-one (omega arith)
+
+      only : (i : ℕ) → counter l c i ≡ entering c i
+      only zero = ap (λ (n : ℕ). counter l n 0) (omega arith) ∙ first l 0 (omega arith)
+      only (suc i) = counter-above l c 1 (suc i) below (omega arith)
+
+      no-carry : (i : ℕ) → i < m → counter l w i + counter l c i < 2 ^ l
+      no-carry zero h = omega (arith, laid .each 0 h, only 0)
+      no-carry (suc i) h = omega (arith, only (suc i), counter-lt l w (suc i))
 
 -- ---- a word whose counters are all at v
 all-moved : (v i : ℕ) → moved v (λ _. v) i ≡ v

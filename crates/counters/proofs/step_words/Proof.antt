@@ -11,10 +11,10 @@ use Rattle.counters.proofs.step_words.Statement.{statement}
 use Rattle.counters.proofs.step_words.Tie as tie
 
 abbrev Inv-loop : tie.InvT-loop
-Inv-loop k words₀ first adds above used enters₀ j₀ words enters j = Handed k words₀ first adds words enters j
+Inv-loop k words₀ adds above used enters₀ j₀ words enters j = Handed k words₀ adds words enters j
 
 abbrev μ-loop : tie.MeasureT-loop
-μ-loop k words₀ first adds above used enters₀ j₀ words enters j = length words₀ - j
+μ-loop k words₀ adds above used enters₀ j₀ words enters j = length words₀ - j
 
 -- the shift that takes a word's top counter out
 shift-fits : {k : Masks} → Sound k → (k .b + 1) * (k .per - 1) < wordBits
@@ -31,8 +31,7 @@ mul-above c = omega (arith, shift-fits (c .before .before .before .before .pre .
 
 loop-holds : tie.Need-loop-holds Inv-loop μ-loop
 loop-holds c =
-    let start = c .before .before .before .before in
-    handed-start _ (start .pre .0) _ _ _ (start .pre .1)
+    handed-start _ (c .before .before .before .before .pre .0) _ _
 
 mul-word : tie.Need-mul-word Inv-loop μ-loop
 mul-word c = omega arith
@@ -50,13 +49,13 @@ mul-step : tie.Need-mul-step Inv-loop μ-loop
 mul-step c = omega arith
 
 shared-slice-read-step : tie.Need-shared-slice-read-step Inv-loop μ-loop
-shared-slice-read-step c = let start = c .before .before .before .before .before .before .before .before in omega (arith, start .pre .3 .long)
+shared-slice-read-step c = let start = c .before .before .before .before .before .before .before .before in omega (arith, start .pre .2 .long)
 
 step-requires : tie.Need-step-requires Inv-loop μ-loop
 step-requires c κs =
     let at-loop = c .before .before .before in
     let start = at-loop .before .before .before .before .before in
-    (start .pre .0, at-loop .loop .inv .narrow, start .pre .3 .each _ (omega arith))
+    (start .pre .0, at-loop .loop .inv .narrow, start .pre .2 .each _ (omega arith))
 
 mul-words : tie.Need-mul-words Inv-loop μ-loop
 mul-words c = omega arith
@@ -74,13 +73,15 @@ loop-again : tie.Need-loop-again Inv-loop μ-loop
 loop-again c =
     let at-loop = c .before .before .before .before in
     let start = at-loop .before .before .before .before .before in
-    handed-more _ (start .pre .0) _ _ _ _ _ _ _ (at-loop .loop .inv) (omega arith) (start .pre .2) (c .step .ensures)
+    handed-more _ (start .pre .0) _ _ _ _ _ _ (at-loop .loop .inv) (omega arith) (start .pre .1) (c .step .ensures)
 
 same-length : tie.Need-same-length Inv-loop μ-loop
 same-length c = c .before .loop .inv .long
 
 returns : tie.Need-returns Inv-loop μ-loop
-returns c = handed-end _ (c .before .before .before .before .before .before .pre .0) _ _ _ _ _ _ (c .before .loop .inv) (c .loop-test .left)
+returns c =
+    let start = c .before .before .before .before .before .before in
+    handed-end _ (start .pre .0) _ _ _ _ _ (start .pre .2) (c .before .loop .inv) (c .loop-test .left)
 
 pub step-words-spec : {M : Type 1} → statement M
 step-words-spec =

@@ -6,6 +6,7 @@ use Prim.Native.Nat.{ℕ, suc, _+_, _-_, _*_, _/_, _^_, _≤_, _<_}
 use native.Mathlib.Nat.{mul-le-mul-right}
 use native.Mathlib.Numerals.{add-one}
 use native.Mathlib.Omega.{arith}
+use lib.Pow.{pow-pos}
 use lib.ListN.{length, getD}
 use Rattle.fit.specs.Reading.{highest, near}
 use Rattle.fit.specs.Rule.{readingAt, sumCost, isPlaceBy}
@@ -25,11 +26,11 @@ use Rattle.counters.specs.Sound.{LaidOut}
 use Rattle.counters.specs.declared.Masks.{Masks}
 use Rattle.counters.proofs.Laws.Widths.{low-bits-least, room-next}
 use Rattle.counters.proofs.Laws.Counts.{per-fits, some-word}
-use Rattle.adding.specs.Costs.{addedOf}
-use Rattle.adding.specs.Tables.{Room, costIn, Tabled}
+use Rattle.adding.specs.Costs.{addedOf, withEntering}
+use Rattle.adding.specs.Tables.{Room, Tabled}
 use Rattle.adding.proofs.Laws.Costing.{added-near, added-fits, added-le}
 use Rattle.adding.proofs.Laws.Filling.{costs-tabled}
-use Rattle.packed.specs.Following.{Scannable, summing, soughtIn}
+use Rattle.packed.specs.Following.{scanCost, Scannable, summing, soughtIn}
 use Rattle.packed.specs.Needs.{wordsOf, maxWords}
 use Rattle.packed.proofs.Laws.Following.{tabled-addable}
 use Rattle.packed.proofs.Laws.Serving.{width-most, four-to-a-word, sixteen-serve, just-needed}
@@ -117,25 +118,28 @@ module _ (delta gamma : ℕ) (x y : List ℕ) (d g b : ℕ) (o : Open delta gamm
       pub few-words : used ≤ maxWords
       few-words = rw used-is (sixteen-serve delta gamma x (o .ok .asked))
 
-      pub may-add : Room (b + 1) (k .per) d g × (1 ≤ k .per) × (1 ≤ used) × (used ≤ maxPoints) × (suc highest * used ≤ 4096)
+      pub may-add : (Room (b + 1) (k .per) d g × (k .enter + (g + 1) < 2 ^ (b + 1)) × (1 ≤ k .per) × (1 ≤ length x))
+          × ((1 ≤ used) × (used ≤ maxPoints) × (suc highest * used ≤ 4096))
       may-add = (
-        record {
-          some = omega arith;
-          narrow = omega (arith, narrow);
-          fit = rw (laid .per-is) (per-fits (b + 1));
-          each-small = d-le-g;
-          sum-small = omega (arith, g-small);
-          top = room-next g b room;
-        },
-        laid .sound .some,
-        some-word (k .per) (length x) (laid .sound .some) used (o .ok .asked .some) needed,
-        omega (arith, few-words),
-        omega (arith, few-words),
+        (
+          record {
+            some = omega arith;
+            narrow = omega (arith, narrow);
+            fit = rw (laid .per-is) (per-fits (b + 1));
+            each-small = d-le-g;
+            sum-small = omega (arith, g-small);
+            top = room-next g b room;
+          },
+          rw (add-one b) (omega (arith, rw (laid .b-is, laid .g-is) at (laid .sound .start), pow-pos b)),
+          laid .sound .some,
+          o .ok .asked .some,
+        ),
+        (some-word (k .per) (length x) (laid .sound .some) used (o .ok .asked .some) needed, omega (arith, few-words), omega (arith, few-words)),
       )
 
       -- the table that was built
-      module _ (t : List ℕ) (tabled : Tabled (b + 1) (k .per) used (length x) (addedOf d g x) t) where
-        by-masks : Tabled (suc (k .b)) (k .per) used (length x) (addedOf d g x) t
+      module _ (t : List ℕ) (tabled : Tabled (b + 1) (k .per) used (length x) (withEntering (k .enter) (addedOf d g x)) t) where
+        by-masks : Tabled (suc (k .b)) (k .per) used (length x) (withEntering (k .enter) (addedOf d g x)) t
         by-masks = rw (laid .b-is, ← (add-one b)) tabled
 
         pub may-scan : Scannable k (length x) used t y
@@ -143,25 +147,25 @@ module _ (delta gamma : ℕ) (x y : List ℕ) (d g b : ℕ) (o : Open delta gamm
           sound = laid .sound;
           some = o .ok .asked .some;
           needed = needed;
-          addable = tabled-addable (k .b) (k .g) (k .per) used (length x) (addedOf d g x) t (laid .sound .some) by-masks
-              (λ i a. rw (laid .g-is) (added-le d g (getD x i 0) a d-le-g));
+          addable = tabled-addable (k .b) (k .g) (k .enter) (k .per) used (length x) (addedOf d g x) t (laid .sound .start) (laid .sound .some)
+              (o .ok .asked .some) (needed .enough) by-masks (λ i a. rw (laid .g-is) (added-le d g (getD x i 0) a d-le-g));
           short = o .ok .short;
           g-small = omega (arith, laid .g-is, g-small);
         }
 
         module _ (bytes : (j : ℕ) → getD y j 0 < 256) where
-          table-sum : (s : ℕ) → sumCost (costIn (suc (k .b)) (k .per) used t) y s (length x) ≡ sumCost (addedOf d g x) y s (length x)
+          table-sum : (s : ℕ) → sumCost (scanCost k used t) y s (length x) ≡ sumCost (addedOf d g x) y s (length x)
           table-sum s =
-              sum-same (costIn (suc (k .b)) (k .per) used t) (addedOf d g x) y s (length x)
-              (λ i h. costs-tabled (suc (k .b)) (k .per) used (length x) (addedOf d g x) t by-masks (needed .enough) i (readingAt y s i) h (bytes (s + i)))
+              sum-same (scanCost k used t) (addedOf d g x) y s (length x)
+              (λ i h. costs-tabled (suc (k .b)) (k .per) (k .enter) used (length x) (addedOf d g x) t by-masks (needed .enough) i (readingAt y s i) h (bytes (s + i)))
 
           same-test-at : (s : ℕ) → soughtIn k (length x) used t y .place s ≡ isPlace delta gamma x y s
           same-test-at s =
-              rw (laid .g-is, o .g-is) (sums-tell delta gamma x y (costIn (suc (k .b)) (k .per) used t) s (rw (o .d-is, o .g-is) at (table-sum s)))
+              rw (laid .g-is, o .g-is) (sums-tell delta gamma x y (scanCost k used t) s (rw (o .d-is, o .g-is) at (table-sum s)))
 
           same-sum-at : (s : ℕ) → soughtIn k (length x) used t y .place s ≡ true → soughtIn k (length x) used t y .sum s ≡ sumDiff x y s
           same-sum-at s e =
-              summed-sum delta gamma x y (costIn (suc (k .b)) (k .per) used t) s (rw (o .d-is, o .g-is) at (table-sum s)) (rw (laid .g-is, o .g-is) at e)
+              summed-sum delta gamma x y (scanCost k used t) s (rw (o .d-is, o .g-is) at (table-sum s)) (rw (laid .g-is, o .g-is) at e)
 
           same-sought : SameSought (soughtIn k (length x) used t y) (soughtOf delta gamma x y)
           same-sought = record { same-count = refl; same-place = same-test-at; same-sum = same-sum-at }

@@ -14,6 +14,7 @@ use lib.Seq.{take-at}
 use lib.Bits.{bitAnd}
 use lib.Dec.{eqb}
 use borrow.Author.Tests.{eqb-true, eq-eqb}
+use Rattle.fit.specs.Reading.{highest}
 use Rattle.fit.specs.Rule.{readingAt, sumCost}
 use Rattle.fit.specs.Place.{windows}
 use Rattle.fit.specs.Answer.{Lent, begun}
@@ -22,19 +23,19 @@ use Rattle.fit.proofs.Laws.Bools.{same-test}
 use Rattle.fit.proofs.Laws.Rules.{fit-all, sum-none, sum-more, by-is, by-within}
 use Rattle.counters.specs.Word.{wordBits, counter}
 use Rattle.counters.specs.Sums.{Stands}
-use Rattle.counters.specs.Words.{Needed, across, TurnedAcross}
+use Rattle.counters.specs.Words.{Needed, across, SmallAcross, TurnedAcross}
 use Rattle.counters.specs.Sound.{Sound}
 use Rattle.counters.specs.declared.Masks.{Masks}
 use Rattle.counters.proofs.Laws.Widths.{one-shifted}
-use Rattle.counters.proofs.Laws.Ends.{moved-first, moved-next, stepped-is, enters, all-above, clear-exactly}
+use Rattle.counters.proofs.Laws.Ends.{moved-first, moved-next, stepped-is, entering-first, entering-le, enters, all-above, clear-exactly}
 use Rattle.counters.proofs.Laws.Counts.{last-word}
 use Rattle.counters.proofs.Laws.Across.{across-is, across-at, agrees-across}
-use Rattle.adding.specs.Costs.{addedOf}
-use Rattle.adding.specs.Tables.{rowOf, costIn, padded, Tabled}
+use Rattle.adding.specs.Costs.{addedOf, withEntering}
+use Rattle.adding.specs.Tables.{rowOf, padded, Tabled}
 use Rattle.adding.proofs.Laws.Costing.{added-zero}
-use Rattle.adding.proofs.Laws.Filling.{padded-small, row-length}
+use Rattle.adding.proofs.Laws.Filling.{padded-below, padded-small, row-length}
 use Rattle.packed.specs.Separate.{after}
-use Rattle.packed.specs.Following.{Addable, Scannable, Follows, summing, soughtIn, Scans}
+use Rattle.packed.specs.Following.{Addable, scanCost, Scannable, Follows, summing, soughtIn, Scans}
 
 -- ---- the separate sums
 module _ (g : ℕ) (cost : ℕ → ℕ → ℕ) (y : List ℕ) where
@@ -85,10 +86,6 @@ same-part used words rest e = rw sub-zero (take-at words rest used e)
 
 -- ---- the words
 module _ (k : Masks) (ok : Sound k) where
-  -- the entering counter is a counter
-  pub enter-lt : k .enter < 2 ^ suc (k .b)
-  enter-lt = omega (arith, ok .start)
-
   -- the last point's counter is one of its word's
   pub last-inside : (m : ℕ) → ((m - 1) % k .per < k .per) × (k .per ≤ wordBits)
   last-inside m = (mod-lt (m - 1) (ok .some), omega (arith, ok .fit))
@@ -114,7 +111,7 @@ module _ (k : Masks) (ok : Sound k) where
 
 module _ (k : Masks) (ok : Sound k) (used : ℕ) (t y : List ℕ) where
   abbrev cost : ℕ → ℕ → ℕ
-  cost = costIn (suc (k .b)) (k .per) used t
+  cost = scanCost k used t
 
   pub follows-start : (words : List ℕ) → length words ≡ used → words ≡ replicate used (k .top) → Follows k used t y words 0
   follows-start words long e = record {
@@ -126,7 +123,7 @@ module _ (k : Masks) (ok : Sound k) (used : ℕ) (t y : List ℕ) where
   }
 
   pub follows-more : (words : List ℕ) (j : ℕ) (next : List ℕ) → Follows k used t y words j
-      → TurnedAcross (k .b) (k .g) (k .per) words (k .enter) (rowOf used t (getD y j 0)) next → Follows k used t y next (j + 1)
+      → TurnedAcross (k .b) (k .g) (k .per) words (k .enter) (λ i. cost i (getD y j 0)) next → Follows k used t y next (j + 1)
   unfolding after
   follows-more words j next f turn =
       rw add-one (record {
@@ -174,20 +171,25 @@ module _ (k : Masks) (m used n : ℕ) (t y : List ℕ) (e : used ≡ n) (given :
     pub scans-all : {entry final : Lent} {r : Search} → Scans k m (length words) t y entry r final → Scans k m used t y entry r final
     scans-all a = rw e (rw (f .1 .long) at a)
 
--- ---- a table of capped additions may be added to the counters
-pub tabled-addable : (b g n k m : ℕ) (cost : ℕ → ℕ → ℕ) (t : List ℕ) → 1 ≤ n → Tabled (suc b) n k m cost t → ((i a : ℕ) → cost i a ≤ g + 1) → Addable b g n k t
-tabled-addable b g n k m cost t some h capped = record {
-  long = h .long;
-  each = λ a byte.
-      let row : length (rowOf k t a) ≡ k = row-length k t a (h .long) byte in
-      let laid = h .each a byte in
-      record {
-        long = row;
-        each = λ j r. record {
-          bound = laid .whole .bound j (rw row r);
-          each = λ c s.
-              let at : across (suc b) n (rowOf k t a) (j * n + c) ≡ padded m (λ i. cost i a) (j * n + c) = laid .each (j * n + c) (rw row (digits-lt r s)) in
-              rw (← (across-at (suc b) n (rowOf k t a) j c s), at) (padded-small m (λ i. cost i a) (j * n + c) (g + 1) (capped (j * n + c) a));
-        };
-      };
-}
+-- ---- a table of capped additions with the entering counter c in them may be added to the counters
+pub tabled-addable : (b g c n k m : ℕ) (cost : ℕ → ℕ → ℕ) (t : List ℕ) → c + (g + 1) ≡ 2 ^ b → 1 ≤ n → 1 ≤ m → m ≤ k * n → Tabled (suc b) n k m (withEntering c cost) t
+    → ((i a : ℕ) → cost i a ≤ g + 1) → Addable b c n k t
+tabled-addable b g c n k m cost t starts some points room h capped = record { long = h .long; each = row }
+  where
+    most : (i a : ℕ) → withEntering c cost i a ≤ 2 ^ b
+    most i a = omega (arith, starts, entering-le c i, capped i a)
+
+    row : (a : ℕ) → a < suc highest → SmallAcross b c n k (rowOf k t a)
+    row a byte =
+        let long : length (rowOf k t a) ≡ k = row-length k t a (h .long) byte in
+        let laid = h .each a byte in
+        record {
+          long = long;
+          each = λ j r. record {
+            bound = laid .whole .bound j (rw long r);
+            each = λ i s.
+                let at : across (suc b) n (rowOf k t a) (j * n + i) ≡ padded m (λ p. withEntering c cost p a) (j * n + i) = laid .each (j * n + i) (rw long (digits-lt r s)) in
+                rw (← (across-at (suc b) n (rowOf k t a) j i s), at) (padded-small m (λ p. withEntering c cost p a) (j * n + i) (2 ^ b) (most (j * n + i) a));
+          };
+          first = omega (arith, laid .each 0 (rw long (omega arith)), padded-below m (λ p. withEntering c cost p a) 0 points, entering-first c);
+        }

@@ -18,8 +18,7 @@ use Rattle.fit.proofs.Laws.Alongs.{Along, along-start, along-tried, along-same,
 use Rattle.counters.specs.Word.{counter}
 use Rattle.counters.specs.Words.{TurnedAcross}
 use Rattle.counters.specs.declared.Masks.{Masks}
-use Rattle.adding.specs.Tables.{rowOf, costIn}
-use Rattle.packed.specs.Following.{Scannable, Follows, Short, summing, soughtIn}
+use Rattle.packed.specs.Following.{scanCost, Scannable, Follows, Short, summing, soughtIn}
 use Rattle.packed.proofs.Laws.Following.{follows-more, last-told, judged}
 
 -- the windows below s were tried, and the words are at the reading before the next window's last; `at` and `bit` tell the last point's counter
@@ -53,7 +52,7 @@ module _ (k : Masks) (m used : ℕ) (t y : List ℕ) (count lead at bit : ℕ) w
 
   -- the next reading was read
   module _ {entry held : Lent} {words words′ : List ℕ} {s : ℕ} {found : Search} (h : Scanned k m used t y count lead at bit entry held words s found) (l : s < count)
-      (turn : TurnedAcross (k .b) (k .g) (k .per) words (k .enter) (rowOf used t (getD y (lead + s) 0)) words′) where
+      (turn : TurnedAcross (k .b) (k .g) (k .per) words (k .enter) (λ i. scanCost k used t i (getD y (lead + s) 0)) words′) where
     -- whether the top bit of the last point's counter is clear, and that counter
     abbrev clear : Bool
     clear = eqb (bitAnd (getD words′ (used - 1) 0) bit) 0
@@ -77,7 +76,7 @@ module _ (k : Masks) (m used : ℕ) (t y : List ℕ) (count lead at bit : ℕ) w
     pub scanned-short : clear ≡ true → Short (k .enter) last
     scanned-short e =
         let place = sym told ∙ e in
-        let within = by-within (summing (costIn (suc (k .b)) (k .per) used t)) m (k .g) y s place in
+        let within = by-within (summing (scanCost k used t)) m (k .g) y s place in
         record { grown = omega (arith, sum-told place); short = omega (arith, sum-told place, within, h .given .g-small) }
 
     -- and where the window is noted by that bit and that counter, it was tried
@@ -102,7 +101,7 @@ module _ (k : Masks) (m used : ℕ) (t y : List ℕ) (count lead at bit : ℕ) w
       → Answer 0 (soughtIn k m used t y) (windows m (length y)) entry found held
   scanned-end {s = s} h l =
       let below : (i : ℕ) → soughtIn k m used t y .place i ≡ true → i < count =
-      λ i e. omega (arith, h .counted, by-below (summing (costIn (suc (k .b)) (k .per) used t)) m (k .g) y i e) in
+      λ i e. omega (arith, h .counted, by-below (summing (scanCost k used t)) m (k .g) y i e) in
       along-end (soughtIn k m used t y) (everyWindow count) s (windows m (length y))
       (λ i e. omega (arith, h .counted, below i e)) (every-count count ∙ h .counted) (every-rises count) (λ i e. every-has count i (below i e))
       (along-same (every-end count s l) (h .along))

@@ -3,7 +3,6 @@ use Prim.Native.Nat.{_+_, _*_, _≤_}
 use native.Mathlib.Omega.{arith}
 use lib.ListN.{length}
 use Rattle.adding.proofs.Laws.Filling.{row-ends, row-part}
-use Rattle.packed.proofs.Laws.Following.{enter-lt}
 use borrow.Author.Needs.{needs}
 use Rattle.packed.proofs.scan.read_one.Statement.{statement}
 use Rattle.packed.proofs.scan.read_one.Tie as tie
@@ -39,7 +38,7 @@ part-step-words-end c = inside (c .before)
 step-words-requires : tie.Need-step-words-requires
 step-words-requires c κs =
     let start = c .before .before .before .before .before in
-    (start .pre .0, enter-lt _ (start .pre .0), start .pre .2, rw (row-part _ _ _ _ (c .before .before .index .ensures .0)) (start .pre .1 .each _ (start .fits .a .fits)))
+    (start .pre .0, start .pre .2, rw (row-part _ _ _ _ (c .before .before .index .ensures .0)) (start .pre .1 .each _ (start .fits .a .fits)))
 
 same-length : tie.Need-same-length
 same-length c = search needs
