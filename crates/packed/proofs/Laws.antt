@@ -1,4 +1,2 @@
-pub mod Following
-pub mod Scanning
 pub mod Serving
 pub mod Answering

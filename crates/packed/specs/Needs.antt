@@ -11,7 +11,3 @@ bitsOf delta gamma m = m * widthOf (gOf m delta gamma)
 -- #104: "whole counters into as many 64-bit words as needed"
 abbrev pub wordsOf : ℕ → ℕ → ℕ → ℕ
 wordsOf delta gamma m = wordsFor (perWord (widthOf (gOf m delta gamma))) m
-
--- "so 16 words serve"
-abbrev pub maxWords : ℕ
-maxWords = 16

@@ -1,7 +1,5 @@
 // The packed searcher: a counter for each point, side by side in as many words as needed, stepped once for each reading.
-// What a place is stands in fit, what a counter is in counters, and what each reading adds in adding; here is the scan.
-mod scan;
-
+// What a place is stands in fit, what a counter is in counters, what each reading adds in adding, and how it is scanned in scan; here is the search.
 ghost use lib.ListN.{length};
 ghost use Rattle.fit.specs.Place.{windows};
 ghost use Rattle.fit.specs.Answer.{lent, Answers};
@@ -9,11 +7,8 @@ ghost use Rattle.fit.specs.Answer.{lent, Answers};
 // The bits of a word.
 const WORD_BITS: u32 = 64;
 
-// The most words that the counters take: 64 counters of 15 bits, four to a word.
-const MAX_WORDS: usize = 16;
-
-// Room for as many words for each reading.
-const TABLE_WORDS: usize = 256 * MAX_WORDS;
+// Room for the most words that the counters take, for each reading.
+const TABLE_WORDS: usize = 256 * words::MAX_WORDS;
 
 // Lists the places of the profile in the recording and their sums, and counts the places and the windows.
 pub fn search(
@@ -45,5 +40,5 @@ pub fn search(
     let per = k.per as usize;
     let used = (m + (per - 1)) / per;
     adding::additions(points, per, used, b + 1, d, g as u64, k.enter, &mut table);
-    scan::scan(k, m, used, &table, recording, list, sums, begun)
+    words::scan_words(k, m, used, &table, recording, list, sums, begun)
 }

@@ -30,9 +30,10 @@ use Rattle.adding.specs.Costs.{addedOf, withEntering}
 use Rattle.adding.specs.Tables.{Room, Tabled}
 use Rattle.adding.proofs.Laws.Costing.{added-near, added-fits, added-le}
 use Rattle.adding.proofs.Laws.Filling.{costs-tabled}
-use Rattle.packed.specs.Following.{scanCost, Scannable, summing, soughtIn}
-use Rattle.packed.specs.Needs.{wordsOf, maxWords}
-use Rattle.packed.proofs.Laws.Following.{tabled-addable}
+use Rattle.scan.specs.Following.{scanCost, Scannable, summing, soughtIn}
+use Rattle.words.specs.Most.{maxWords}
+use Rattle.packed.specs.Needs.{wordsOf}
+use Rattle.scan.proofs.Laws.Following.{tabled-addable}
 use Rattle.packed.proofs.Laws.Serving.{width-most, four-to-a-word, sixteen-serve, just-needed}
 
 -- ---- the window at s under (d, g): its sum of additions is at most g exactly where it is a place

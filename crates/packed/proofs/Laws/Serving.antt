@@ -10,7 +10,8 @@ use Rattle.counters.specs.Width.{lowBits, widthOf}
 use Rattle.counters.specs.Words.{perWord, Needed}
 use Rattle.counters.proofs.Laws.Widths.{low-bits-least}
 use Rattle.counters.proofs.Laws.Counts.{per-most, words-least, words-needed}
-use Rattle.packed.specs.Needs.{wordsOf, maxWords}
+use Rattle.words.specs.Most.{maxWords}
+use Rattle.packed.specs.Needs.{wordsOf}
 
 -- "the widest counter, 15 bits"
 pub width-most : (g : ℕ) → g ≤ maxGamma → widthOf g ≤ 15

@@ -86,11 +86,11 @@ slice-aggregate-additions c = search needs
 additions-requires : tie.Need-additions-requires
 additions-requires c κs = let built = c .before .before in may-add _ _ _ _ _ _ _ (open-at (built .before)) _ (built .lay-out .ensures) _ refl
 
-slice-aggregate-scan : tie.Need-slice-aggregate-scan
-slice-aggregate-scan c = search needs
+slice-aggregate-scan-words : tie.Need-slice-aggregate-scan-words
+slice-aggregate-scan-words c = search needs
 
-scan-requires : tie.Need-scan-requires
-scan-requires c κs =
+scan-words-requires : tie.Need-scan-words-requires
+scan-words-requires c κs =
     let added = c .before .before .before .before in
     let built = added .before .before .before in
     let known = open-at (built .before) in (
@@ -112,7 +112,7 @@ returns-2 c =
     let built = added .before .before .before in
     let readings = built .before .before .before .before .before .before .before .before .before .before .before in
     answered _ _ _ _ _ _ _ (open-at (built .before)) _ (built .lay-out .ensures) _ refl _ (added .additions .ensures .tabled)
-    (λ j. readings .shared-slice-known2 .given j .fits) (done .scan .ensures)
+    (λ j. readings .shared-slice-known2 .given j .fits) (done .scan-words .ensures)
 
 pub search-spec : {M : Type 1} → statement M
 search-spec =
@@ -137,8 +137,8 @@ search-spec =
     cast-additions
     slice-aggregate-additions
     additions-requires
-    slice-aggregate-scan
-    scan-requires
+    slice-aggregate-scan-words
+    scan-words-requires
     same-length
     same-length-2
     returns-2)
