@@ -14,6 +14,6 @@ added d g p a = cond (near d p a) (diff p a) (g + 1)
 abbrev pub addedOf : ℕ → ℕ → List ℕ → ℕ → ℕ → ℕ
 addedOf d g x i a = added d g (getD x i 0) a
 
--- and with the counter c that enters at point 1 added too: what the counter of that point holds after its first reading
+-- and with the counter c that enters at point 1 added too, which that point's counter then holds; at the others nothing enters
 abbrev pub withEntering : ℕ → (ℕ → ℕ → ℕ) → ℕ → ℕ → ℕ
 withEntering c cost i a = entering c i + cost i a

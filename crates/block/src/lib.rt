@@ -89,7 +89,7 @@ fn note_scored(
 
 // Tries the 64 windows from s on.
 pub fn try_block(
-    spans: &[u16],
+    spans: &[u16; 256],
     m: usize,
     gamma: u32,
     recording: &[u8],
@@ -98,7 +98,7 @@ pub fn try_block(
     s: usize,
     before: Search,
 ) -> Search
-    requires { ⌜ Ready (now spans) m gamma (length (now recording)) × (s + 63 + m ≤ length (now recording)) ⌝ }
+    requires { ⌜ Ready m gamma (length (now recording)) × (s + 63 + m ≤ length (now recording)) ⌝ }
     requires { ⌜ (before .total ≤ before .tried) × (before .tried ≤ s) ⌝ }
     ensures { λ r. ⌜
         TriedAll (soughtBy (ruleIn (now (spans .entry))) m gamma (now (recording .entry))) (run s 64) before

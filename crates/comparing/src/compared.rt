@@ -1,5 +1,5 @@
 // What a search needs to compare points: their order, and the mismatch jump of each.
-use fit::Profile;
+use limits::Profile;
 ghost use mathlib.Core.Path.{_≡_};
 ghost use Prim.Native.Nat.{_≤_, _<_};
 ghost use lib.ListN.{length};

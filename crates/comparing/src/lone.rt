@@ -1,25 +1,12 @@
 // The lone jumps, which give the order in which points are compared.
-use fit::Profile;
+use limits::Profile;
 ghost use mathlib.Core.Path.{_≡_};
-ghost use Prim.Native.Nat.{_+_, _≤_, _<_, min};
+ghost use Prim.Native.Nat.{_≤_, _<_};
 ghost use lib.ListN.{length};
-ghost use Rattle.fit.specs.Reading.{lowest, highest};
+ghost use Rattle.fit.specs.Reading.{lowest};
 ghost use Rattle.fit.specs.Refusal.{maxPoints, maxDelta};
 ghost use Rattle.jumps.specs.Jumps.{lonely, loneAt, loneJump};
 ghost use Rattle.tables.specs.Holding.{Holds, Usable};
-
-// The greatest reading that is near point p.
-fn most_near(p: u8, d: u32) -> u8
-    requires { ⌜ d ≤ maxDelta ⌝ }
-    ensures { λ r. ⌜ r ≡ min highest (p + d) ⌝ }
-{
-    let v = p as u32 + d;
-    if v < reading::HIGHEST as u32 {
-        v as u8
-    } else {
-        reading::HIGHEST
-    }
-}
 
 // Whether some reading is near one point and not near the other: the least and the greatest that are near the one decide.
 fn is_lonely(d: u32, one: u8, other: u8) -> bool
@@ -27,7 +14,7 @@ fn is_lonely(d: u32, one: u8, other: u8) -> bool
     ensures { λ r. ⌜ r ≡ lonely d one other ⌝ }
 {
     if reading::is_near(d, other, reading::least_near(one, d)) {
-        !reading::is_near(d, other, most_near(one, d))
+        !reading::is_near(d, other, reading::most_near(one, d))
     } else {
         true
     }

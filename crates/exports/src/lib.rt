@@ -14,7 +14,7 @@ ghost use Rattle.fit.specs.Answer.{soughtOf, lent, Answers};
 ghost use Rattle.last.specs.Walk.{lastWalkOf};
 ghost use Rattle.first.specs.First.{firstAnswer};
 ghost use Rattle.skip.specs.Walk.{skipWalk};
-ghost use Rattle.maximal.specs.Walk.{maximalWalk};
+ghost use Rattle.leaping.specs.Walk.{maximalWalk};
 ghost use Rattle.jumps.specs.Jumps.{lastJump, nextJump, seenJump, afterJump, mismatchJump, fullJump};
 ghost use Rattle.questions.specs.Asking.{jumpAnswer, mismatchRefusal};
 ghost use Rattle.judging.specs.Judging.{checkRefusal, checkAnswer};

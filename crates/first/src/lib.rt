@@ -55,7 +55,7 @@ pub fn search(points: &[u8], delta: u32, gamma: u32, recording: &[u8]) -> First
 
 // The same for m points compiled to spans, with the tables of their last-reading jumps and of the jumps after a tried window.
 fn over_spans<'a>(
-    spans: &'a [u16],
+    spans: &'a [u16; 256],
     m: usize,
     gamma: u32,
     table: &'a [u8; 256],

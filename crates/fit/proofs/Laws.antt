@@ -10,11 +10,9 @@ pub mod Verdicts
 pub mod Zeros
 pub mod Refusals
 pub mod Shorts
-pub mod Constructed
 pub mod Compiled
 pub mod Steps
 pub mod Answers
-pub mod Openings
 pub mod Closest
 pub mod Alongs
 pub mod Tryings

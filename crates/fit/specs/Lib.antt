@@ -8,7 +8,6 @@ pub mod Walk
 pub mod Chain
 pub mod Refusal
 pub mod Verdict
-pub mod Made
 pub mod Spans
 pub mod Answer
 pub mod Trying

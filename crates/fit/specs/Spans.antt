@@ -1,10 +1,10 @@
 -- A profile as numbers, four for each point, so that one code serves every kind of profile. Assumes nothing.
--- Point i has the numbers 4i to 4i + 3: readings from the first to the second suit it, and those from the third to the fourth cost
--- nothing; any other costs its distance from these.
+-- They lie in four rows of 64 numbers, one row behind the other, so that code asks many points at once. For point i, readings from the number in the
+-- first row to that in the second suit it, and those from the third to the fourth cost nothing; any other costs its distance from these.
 use Prim.Native.Nat.{ℕ, _+_, _-_, _*_, _≤_, max}
 use mathlib.Core.Bool.{Bool, _&&_}
-use mathlib.Core.List.{List, [], _∷_, _++_}
-use lib.ListN.{length, getD, replicate}
+use mathlib.Core.List.{List, _++_, map}
+use lib.ListN.{getD, replicate}
 use lib.Dec.{leb}
 use Rattle.fit.specs.Reading.{lowest}
 use Rattle.fit.specs.Rule.{Rule}
@@ -20,26 +20,25 @@ spanCost from to a = (from - a) + (a - to)
 -- the rule that the numbers say
 abbrev pub ruleIn : List ℕ → Rule
 ruleIn spans = record {
-  fit = λ i a. spanFits (getD spans (4 * i) 0) (getD spans (4 * i + 1) 0) a;
-  cost = λ i a. spanCost (getD spans (4 * i + 2) 0) (getD spans (4 * i + 3) 0) a;
+  fit = λ i a. spanFits (getD spans i 0) (getD spans (maxPoints + i) 0) a;
+  cost = λ i a. spanCost (getD spans (2 * maxPoints + i) 0) (getD spans (3 * maxPoints + i) 0) a;
 }
 
--- the numbers of an ordinary point p: the readings that are near by d suit it, from p - d, or from the lowest, to p + d; and p itself costs nothing
-abbrev pub spanOf : ℕ → ℕ → List ℕ
-spanOf d p = max lowest (p - d) ∷ (p + d) ∷ p ∷ p ∷ []
+-- a row: what is said of each point, whatever a point is, and zeros behind the last
+abbrev pub row : {A : Type 0} → (A → ℕ) → List A → List ℕ
+row say x = overlay (map say x) (replicate maxPoints 0)
 
-unfoldable pub spansFor : ℕ → List ℕ → List ℕ
-spansFor d [] = []
-spansFor d (p ∷ x) = spanOf d p ++ spansFor d x
+abbrev pub rows : {A : Type 0} → (A → ℕ) → (A → ℕ) → (A → ℕ) → (A → ℕ) → List A → List ℕ
+rows low high from to x = row low x ++ (row high x ++ (row from x ++ row to x))
 
--- those of a whole profile, in a list of 256 numbers with zeros after them
+-- the numbers of an ordinary profile: the readings that are near point p by d suit it, from p - d, or from the lowest, to p + d; and p itself
+-- costs nothing
 abbrev pub spansOf : ℕ → List ℕ → List ℕ
-spansOf d x = overlay (spansFor d x) (replicate (4 * maxPoints) 0)
+spansOf d x = rows (λ p. max lowest (p - d)) (λ p. p + d) (λ p. p) (λ p. p) x
 
--- what a search over spans asks of its input: 1 to 64 points of four numbers each, and within the limits otherwise
-pub record Ready (spans : List ℕ) (m gamma n : ℕ) : Type 0 where
+-- what a search over spans asks of its input: 1 to 64 points, and within the limits otherwise
+pub record Ready (m gamma n : ℕ) : Type 0 where
   pub some : 1 ≤ m
   pub few : m ≤ maxPoints
-  pub full : 4 * m ≤ length spans
   pub gamma-small : gamma ≤ maxGamma
   pub short : n ≤ maxReadings

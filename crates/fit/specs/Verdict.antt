@@ -5,7 +5,7 @@ use mathlib.Core.Bool.{Bool, true, false, cond}
 use mathlib.Core.List.{List}
 use mathlib.Core.Path.{_≡_}
 use lib.ListN.{length}
-use lib.Dec.{leb, eqb}
+use lib.Dec.{leb}
 use Rattle.fit.specs.Rule.{Rule, readingAt, sumCost}
 use Rattle.fit.specs.Place.{ruleOf, dOf, gOf}
 use Rattle.fit.specs.Refusal.{orElse}
@@ -33,10 +33,6 @@ unfoldable pub toldOf : Verdict → Told
 toldOf (Fits sum) = fitsWith sum
 toldOf (Far p) = farAt p
 toldOf (Over sum) = overWith sum
-
--- the sum that is told of a place; of a window that is none, 0
-unfoldable pub placeSum : Told → ℕ
-placeSum t = cond (eqb (t .kind) 1) (t .sum) 0
 
 -- of the first k points, document 01's number of the first whose reading in the window at s does not suit it; 0 where all suit
 unfoldable pub brokenAt : (ℕ → ℕ → Bool) → List ℕ → ℕ → ℕ → ℕ

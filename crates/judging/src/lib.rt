@@ -27,8 +27,8 @@ pub fn check(points: &[u8], delta: u32, gamma: u32, recording: &[u8], s: usize) 
         toldAll r ≡ checkAnswer (checkRefusal delta gamma (now (points .entry)) (now (recording .entry)) s)
         (verdictOf delta gamma (now (points .entry)) (now (recording .entry)) s) ⌝ }
 {
-    let checked = fit::checked_search(points, delta, gamma, recording);
-    let number = fit::or_else(checked.refusal, of_window(points.len(), recording, s));
+    let checked = limits::checked_search(points, delta, gamma, recording);
+    let number = limits::or_else(checked.refusal, of_window(points.len(), recording, s));
     if number != 0 {
         return Judged {
             refusal: number,

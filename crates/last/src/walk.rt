@@ -19,7 +19,7 @@ pub fn prepare(points: &[u8], delta: u32, gamma: u32, recording: &[u8]) -> Prepa
     ensures { λ r. ⌜
         PreparedBy (searchRefusal delta gamma (now (points .entry)) (now (recording .entry))) delta gamma (now (points .entry)) r ⌝ }
 {
-    let checked = fit::checked_search(points, delta, gamma, recording);
+    let checked = limits::checked_search(points, delta, gamma, recording);
     if checked.refusal != 0 {
         return Prepared {
             refusal: checked.refusal,

@@ -1,7 +1,7 @@
 // Words of marks: bit i of a word stands for point i. A search makes, for each reading, the word of the points that it suits; a look-up then tells
 // all of them at once, and shifting and joining words asks many points in a few instructions.
 ghost use mathlib.Core.Path.{_≡_};
-ghost use Prim.Native.Nat.{ℕ, _+_, _*_, _≤_, _<_, min};
+ghost use Prim.Native.Nat.{ℕ, _+_, _≤_, _<_, min};
 ghost use lib.ListN.{length, getD};
 ghost use lib.Count.{ones};
 ghost use Rattle.fit.specs.Listing.{Entries};
@@ -41,14 +41,14 @@ fn mark_span(table: &mut [u64; 256], i: usize, low: u16, high: u16)
 }
 
 // For each reading the points that it suits. Each point is marked for its own readings, so that no point is asked for each reading.
-pub fn near_masks(spans: &[u16], m: usize) -> [u64; 256]
-    requires { ⌜ (m ≤ maxPoints) × (4 * m ≤ length (now spans)) ⌝ }
+pub fn near_masks(spans: &[u16; 256], m: usize) -> [u64; 256]
+    requires { ⌜ m ≤ maxPoints ⌝ }
     ensures { λ r. ⌜ MarkTable m (ruleIn (now (spans .entry)) .fit) r ⌝ }
 {
     let mut table = [0u64; 256];
     let mut i = 0;
     while i < m {
-        mark_span(&mut table, i, spans[4 * i], spans[4 * i + 1]);
+        mark_span(&mut table, i, spans[i], spans[64 + i]);
         i += 1;
     }
     table

@@ -1,11 +1,9 @@
-// The maximal searcher: it compares points in the order that promises the longest jumps, and takes the larger of two jumps.
-mod step;
-
+// The maximal searcher: what it goes by is prepared here, and how it goes stands in `leaping`.
 use fit::Search;
 ghost use lib.ListN.{length};
 ghost use Rattle.fit.specs.Place.{dOf};
 ghost use Rattle.fit.specs.Answer.{lent, Answers};
-ghost use Rattle.maximal.specs.Walk.{maximalWalk};
+ghost use Rattle.leaping.specs.Walk.{maximalWalk};
 
 // Lists the places of the profile in the recording and their sums, and counts the places and the windows tried.
 pub fn search(
@@ -21,29 +19,27 @@ pub fn search(
         (length (maximalWalk (dOf delta gamma) (now (points .entry)) (now (recording .entry))))
         (lent (now (list .entry)) (now (sums .entry))) r (lent (now (list .exit)) (now (sums .exit))) ⌝ }
 {
-    let checked = fit::checked_search(points, delta, gamma, recording);
-    let mut found = fit::begin(checked.refusal);
+    let checked = limits::checked_search(points, delta, gamma, recording);
+    let found = fit::begin(checked.refusal);
     if found.refusal != 0 {
         return found;
     }
-    let m = points.len();
     let tolerance = checked.tolerance;
     let d = tolerance.d();
     let spans = ordinary::spans_of(checked.profile, d);
-    let next = tables::next_table(&spans, m);
+    let next = tables::next_table(&spans, points.len());
     let compared = comparing::compared_of(points, d);
-    let order = compared.order;
-    let jumps = compared.jumps;
-    let full = tables::full_jump(points, d);
-    let count = window::count_windows(m, recording);
-    let mut s = 0;
-    while s < count {
-        let leading = step::near_points(points, d, &order, recording, s);
-        // the jump is looked up before the window is tried: so the compiler keeps in registers what each step needs
-        let jump = step::compared_jump(m, &order, &jumps, full, leading);
-        let larger = step::larger_jump(&next, m, recording, s, jump);
-        found = step::try_compared(&spans, m, gamma, recording, list, sums, s, leading, found);
-        s += larger;
-    }
-    found
+    leaping::walk(
+        points,
+        d,
+        gamma,
+        &spans,
+        &next,
+        &compared.order,
+        &compared.jumps,
+        recording,
+        list,
+        sums,
+        found,
+    )
 }

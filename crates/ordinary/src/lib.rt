@@ -3,7 +3,7 @@
 ghost use mathlib.Core.Path.{_≡_};
 ghost use Prim.Native.Nat.{_≤_};
 ghost use Rattle.fit.specs.Refusal.{maxPoints, maxDelta};
-ghost use Rattle.fit.specs.Made.{pointsOf};
+ghost use Rattle.limits.specs.Made.{pointsOf};
 ghost use Rattle.fit.specs.Spans.{spansOf};
 
 fn wide(a: u8) -> u16
@@ -12,22 +12,22 @@ fn wide(a: u8) -> u16
     a as u16
 }
 
-// The four numbers of each point, in point order, and zeros beyond them.
-pub fn spans_of(profile: fit::Profile, d: u32) -> [u16; 4 * fit::Profile::MAX_POINTS]
+// The four numbers of each point, in four rows, each with zeros beyond the points.
+pub fn spans_of(profile: limits::Profile, d: u32) -> [u16; 4 * limits::Profile::MAX_POINTS]
     requires { ⌜ (profile .m ≤ maxPoints) × (d ≤ maxDelta) ⌝ }
     ensures { λ r. ⌜ r ≡ spansOf d (pointsOf profile) ⌝ }
 {
     let points = profile.points();
     let m = profile.m();
     let reach = d as u16;
-    let mut spans = [0u16; 4 * fit::Profile::MAX_POINTS];
+    let mut spans = [0u16; 4 * limits::Profile::MAX_POINTS];
     let mut i = 0;
     while i < m {
         let p = wide(points[i]);
-        spans[4 * i] = wide(reading::least_near(points[i], d));
-        spans[4 * i + 1] = p + reach;
-        spans[4 * i + 2] = p;
-        spans[4 * i + 3] = p;
+        spans[i] = wide(reading::least_near(points[i], d));
+        spans[64 + i] = p + reach;
+        spans[128 + i] = p;
+        spans[192 + i] = p;
         i += 1;
     }
     spans

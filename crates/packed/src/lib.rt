@@ -26,7 +26,7 @@ pub fn search(
 {
     // first of all: the compiler would lose a register if it took this much room later (docs/DECISIONS.md, What is compiled)
     let mut table = [0u64; TABLE_WORDS];
-    let checked = fit::checked_search(points, delta, gamma, recording);
+    let checked = limits::checked_search(points, delta, gamma, recording);
     let begun = fit::begin(checked.refusal);
     if begun.refusal != 0 {
         return begun;

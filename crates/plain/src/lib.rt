@@ -24,7 +24,7 @@ pub fn search(
         (windows (length (now (points .entry))) (length (now (recording .entry))))
         (lent (now (list .entry)) (now (sums .entry))) r (lent (now (list .exit)) (now (sums .exit))) ⌝ }
 {
-    let checked = fit::checked_search(points, delta, gamma, recording);
+    let checked = limits::checked_search(points, delta, gamma, recording);
     let found = fit::begin(checked.refusal);
     if found.refusal != 0 {
         return found;
@@ -37,7 +37,7 @@ pub fn search(
 
 // The same for a profile of m points that is compiled to spans, whatever its points are.
 pub fn over_spans(
-    spans: &[u16],
+    spans: &[u16; 256],
     m: usize,
     gamma: u32,
     recording: &[u8],
@@ -45,7 +45,7 @@ pub fn over_spans(
     sums: &mut [u16],
     start: Search,
 ) -> Search
-    requires { ⌜ Ready (now spans) m gamma (length (now recording)) × (start ≡ begun 0) ⌝ }
+    requires { ⌜ Ready m gamma (length (now recording)) × (start ≡ begun 0) ⌝ }
     ensures { λ r. ⌜
         Answer 0 (soughtBy (ruleIn (now (spans .entry))) m gamma (now (recording .entry)))
         (windows m (length (now (recording .entry))))
@@ -64,7 +64,7 @@ pub fn over_spans(
 // Tries the windows from the one at `from` on. A function of its own, so that nothing but the block stands in the loop above: what is the same for every
 // block is then read once a search.
 fn one_by_one(
-    spans: &[u16],
+    spans: &[u16; 256],
     m: usize,
     gamma: u32,
     recording: &[u8],
@@ -73,7 +73,7 @@ fn one_by_one(
     from: usize,
     before: Search,
 ) -> Search
-    requires { ⌜ Ready (now spans) m gamma (length (now recording)) × (from ≤ windows m (length (now recording))) ⌝ }
+    requires { ⌜ Ready m gamma (length (now recording)) × (from ≤ windows m (length (now recording))) ⌝ }
     requires { ⌜ (before .total ≤ before .tried) × (before .tried ≤ from) ⌝ }
     ensures { λ r. ⌜
         TriedAll (soughtBy (ruleIn (now (spans .entry))) m gamma (now (recording .entry)))

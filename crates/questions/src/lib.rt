@@ -39,7 +39,7 @@ fn compile(points: &[u8], delta: u32, gamma: u32) -> Compiled
     ensures { λ r. ⌜
         r ≡ compiledAnswer (questionRefusal delta gamma (now (points .entry))) (spansOf (dOf delta gamma) (now (points .entry))) ⌝ }
 {
-    let checked = fit::checked_question(points, delta, gamma);
+    let checked = limits::checked_question(points, delta, gamma);
     if checked.refusal != 0 {
         return Compiled {
             refusal: checked.refusal,
@@ -106,7 +106,7 @@ pub fn seen_reading(points: &[u8], delta: u32, gamma: u32, a: u8) -> Jump
 pub fn after_check(points: &[u8], delta: u32, gamma: u32) -> Jump
     ensures { λ r. ⌜ r ≡ jumpAnswer (questionRefusal delta gamma (now (points .entry))) (afterJump (dOf delta gamma) (now (points .entry))) ⌝ }
 {
-    let checked = fit::checked_question(points, delta, gamma);
+    let checked = limits::checked_question(points, delta, gamma);
     if checked.refusal != 0 {
         return refused(checked.refusal);
     }
@@ -122,7 +122,7 @@ pub fn after_check(points: &[u8], delta: u32, gamma: u32) -> Jump
 pub fn full(points: &[u8], delta: u32, gamma: u32) -> Jump
     ensures { λ r. ⌜ r ≡ jumpAnswer (questionRefusal delta gamma (now (points .entry))) (fullJump (dOf delta gamma) (now (points .entry))) ⌝ }
 {
-    let checked = fit::checked_question(points, delta, gamma);
+    let checked = limits::checked_question(points, delta, gamma);
     if checked.refusal != 0 {
         return refused(checked.refusal);
     }
@@ -139,8 +139,8 @@ pub fn mismatch(points: &[u8], delta: u32, gamma: u32, p: usize) -> Jump
     ensures { λ r. ⌜
         r ≡ jumpAnswer (mismatchRefusal delta gamma (now (points .entry)) p) (mismatchJump (dOf delta gamma) (now (points .entry)) (p - 1)) ⌝ }
 {
-    let checked = fit::checked_question(points, delta, gamma);
-    let number = fit::or_else(checked.refusal, of_point(points.len(), p));
+    let checked = limits::checked_question(points, delta, gamma);
+    let number = limits::or_else(checked.refusal, of_point(points.len(), p));
     if number != 0 {
         return refused(number);
     }

@@ -1,6 +1,7 @@
 // Readings: differences, which of them are near, and a byte as an index.
 ghost use mathlib.Core.Path.{_≡_};
-ghost use Prim.Native.Nat.{_-_, _≤_, max};
+ghost use Prim.Native.Nat.{_+_, _-_, _%_, _≤_, min, max};
+ghost use lib.Dec.{leb};
 ghost use Rattle.fit.specs.Reading.{lowest, highest, diff, alike, near};
 
 // The least reading that tells a pressure, and the greatest: the sensor writes 0 where it has lost contact.
@@ -51,6 +52,23 @@ pub fn least_near(p: u8, d: u32) -> u8
         return LOWEST as u8;
     }
     low as u8
+}
+
+// The greatest reading that is near point p.
+pub fn most_near(p: u8, d: u32) -> u8
+    ensures { λ r. ⌜ r ≡ min highest (p + d) ⌝ }
+{
+    // in 64 bits, where the sum cannot be too large a number
+    let v = p as u64 + d as u64;
+    if v < HIGHEST as u64 { v as u8 } else { HIGHEST }
+}
+
+// Whether a is the least of some readings, or one of so many more that follow it: one comparison, since what lies below the least wraps. Behind 255
+// they would go on from 0, so callers have no more than end there. That a is a reading is told for them too.
+pub fn is_among(least: u8, more: u8, a: u8) -> bool
+    ensures { λ r. ⌜ (r ≡ leb ((a + 256 - least) % 256) more) × (a ≤ highest) ⌝ }
+{
+    std::num::wrapping_sub_u8(a, least) <= more
 }
 
 // A byte as an index, or as any number that is counted with.

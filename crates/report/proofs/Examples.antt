@@ -15,7 +15,7 @@ use Rattle.jumps.specs.Jumps.{seenJump, lonely, loneAt, loneJump, earlier, agre
 use Rattle.comparing.specs.Order.{withLone, falling}
 use Rattle.last.specs.Walk.{lastTries, lastNext}
 use Rattle.skip.specs.Walk.{probed, probes, skipWalk}
-use Rattle.maximal.specs.Walk.{comparedJump, maximalNext}
+use Rattle.leaping.specs.Walk.{comparedJump, maximalNext}
 use Rattle.input.specs.Inputs.{ofInput, pointsBy, recordingBy}
 use Rattle.page.specs.Put.{countFrom, decimal}
 use Rattle.lines.specs.Lines.{lineBy, linesOf}

@@ -8,7 +8,7 @@ use Rattle.fit.specs.Listing.{places}
 use Rattle.fit.specs.Answer.{soughtOf, outcome}
 use Rattle.last.specs.Walk.{lastWalkOf}
 use Rattle.skip.specs.Walk.{skipWalk}
-use Rattle.maximal.specs.Walk.{maximalWalk}
+use Rattle.leaping.specs.Walk.{maximalWalk}
 use Rattle.input.specs.Inputs.{deltaIn, gammaIn, ofInput, pointsIn, recordingIn}
 use Rattle.lines.specs.Lines.{refusedLine, lineOf, linesOf}
 

@@ -1,19 +1,11 @@
--- The score of a window: one number that tells whether it is a place, and if all its points are near, its sum. Assumes nothing.
+-- The scores of 64 windows. Assumes nothing.
 use Prim.Native.Nat.{ℕ, _+_, min}
 use mathlib.Core.Bool.{cond}
 use mathlib.Core.List.{List}
-use lib.Dec.{eqb}
 use Rattle.fit.specs.Rule.{Rule, allFit, sumCost}
 use Rattle.fit.specs.Listing.{Entries}
-use Rattle.fit.specs.Verdict.{Told, verdictBy}
-
--- the greatest score; no gamma reaches it
-abbrev pub mostScore : ℕ
-mostScore = 65535
-
--- the score of a window, by what its check answers: the sum where it fits or is over, cut off at the greatest score, and that much where a point is far
-unfoldable pub scoreIn : Told → ℕ
-scoreIn t = cond (eqb (t .kind) 0) mostScore (min (t .sum) mostScore)
+use Rattle.fit.specs.Verdict.{verdictBy}
+use Rattle.spans.specs.Score.{mostScore, scoreIn}
 
 -- the scores of the 64 windows from s on, whatever gamma is: no score depends on it
 abbrev pub Scored : Rule → ℕ → List ℕ → ℕ → List ℕ → Type 0

@@ -3,14 +3,16 @@
 // has a branch in it, so that the compiler makes vector instructions of eight at once.
 ghost use mathlib.Core.Path.{_≡_};
 ghost use mathlib.Core.Bool.{cond};
-ghost use Prim.Native.Nat.{_+_, _-_, _*_, _≤_, _<_, min};
+ghost use Prim.Native.Nat.{_+_, _-_, _≤_, _<_, min};
 ghost use lib.ListN.{length, getD};
 ghost use lib.Dec.{eqb};
 ghost use Rattle.fit.specs.Rule.{allFit};
 ghost use Rattle.fit.specs.Listing.{Entries};
+ghost use Rattle.fit.specs.Refusal.{maxPoints};
 ghost use Rattle.fit.specs.Spans.{spanCost, ruleIn};
 ghost use Rattle.sieve.specs.Sieve.{mark};
-ghost use Rattle.score.specs.Score.{mostScore, Scored, scoreAfter};
+ghost use Rattle.spans.specs.Score.{mostScore};
+ghost use Rattle.score.specs.Score.{Scored, scoreAfter};
 
 // a - b, and 0 where that is below 0.
 fn above(a: u16, b: u16) -> u16
@@ -35,13 +37,20 @@ fn added(score: u16, from: u16, to: u16, a: u8) -> u16
 }
 
 // Adds point i to the scores of the 64 windows from s on.
-fn add_point(scores: &mut [u16; 64], spans: &[u16], m: usize, recording: &[u8], s: usize, i: usize)
-    requires { ⌜ (4 * i + 3 < length (now spans)) × (s + 63 + i < length (now recording)) ⌝ }
+fn add_point(
+    scores: &mut [u16; 64],
+    spans: &[u16; 256],
+    m: usize,
+    recording: &[u8],
+    s: usize,
+    i: usize,
+)
+    requires { ⌜ (i < maxPoints) × (s + 63 + i < length (now recording)) ⌝ }
     requires { ⌜ Entries (λ j. scoreAfter (ruleIn (now spans)) m (now recording) i (s + j)) 64 (now scores) ⌝ }
     ensures { λ _. ⌜ Entries (λ j. scoreAfter (ruleIn (now (spans .entry))) m (now (recording .entry)) (i + 1) (s + j)) 64 (now (scores .exit)) ⌝ }
 {
-    let from = spans[4 * i + 2];
-    let to = spans[4 * i + 3];
+    let from = spans[128 + i];
+    let to = spans[192 + i];
     let mut j = 0;
     while j < 64 {
         scores[j] = added(scores[j], from, to, recording[s + j + i]);
@@ -71,8 +80,14 @@ fn begun_all(marks: &[u8; 64]) -> [u16; 64]
 }
 
 // The scores of the 64 windows from s on, with a mark for each that fits. What is near is told by the marks and not by gamma, so they serve every gamma.
-pub fn scores(spans: &[u16], m: usize, recording: &[u8], s: usize, marks: &[u8; 64]) -> [u16; 64]
-    requires { ⌜ (4 * m ≤ length (now spans)) × (s + 63 + m ≤ length (now recording)) ⌝ }
+pub fn scores(
+    spans: &[u16; 256],
+    m: usize,
+    recording: &[u8],
+    s: usize,
+    marks: &[u8; 64],
+) -> [u16; 64]
+    requires { ⌜ (m ≤ maxPoints) × (s + 63 + m ≤ length (now recording)) ⌝ }
     requires { ⌜ Entries (λ j. mark (allFit (ruleIn (now spans) .fit) (now recording) (s + j) m)) 64 (now marks) ⌝ }
     ensures { λ r. ⌜ Scored (ruleIn (now (spans .entry))) m (now (recording .entry)) s r ⌝ }
 {

@@ -13,7 +13,7 @@ use Rattle.comparing.specs.Order.{withLone, falling}
 use Rattle.questions.specs.Asking.{jumpAnswer, mismatchRefusal}
 use Rattle.last.specs.Walk.{lastTries, lastNext}
 use Rattle.skip.specs.Walk.{probed, probes, skipWalk}
-use Rattle.maximal.specs.Walk.{comparedJump, maximalNext}
+use Rattle.leaping.specs.Walk.{comparedJump, maximalNext}
 use Rattle.sheet.specs.Sheet.{sheet, Holds}
 use Rattle.sheet.proofs.Tables.{equal, passes, passing-holds}
 

@@ -14,7 +14,7 @@ use Rattle.questions.specs.declared.Jump.{Jump}
 use Rattle.questions.specs.Asking.{jumpAnswer, mismatchRefusal}
 use Rattle.last.specs.Walk.{lastWalkOf}
 use Rattle.skip.specs.Walk.{skipWalk}
-use Rattle.maximal.specs.Walk.{maximalWalk}
+use Rattle.leaping.specs.Walk.{maximalWalk}
 
 -- a row: its input, and its result
 pub data Row : Type 0 where

@@ -8,7 +8,7 @@ ghost use lib.ListN.{length, getD};
 ghost use lib.Dec.{leb};
 ghost use Rattle.fit.specs.Rule.{allFit};
 ghost use Rattle.fit.specs.Listing.{Entries};
-ghost use Rattle.fit.specs.Refusal.{maxReadings};
+ghost use Rattle.fit.specs.Refusal.{maxPoints, maxReadings};
 ghost use Rattle.fit.specs.Spans.{spanFits, ruleIn};
 ghost use Rattle.sieve.specs.Sieve.{mark, some, passes, Ranged};
 
@@ -60,19 +60,19 @@ fn range_of(low: u16, high: u16) -> Range
 }
 
 // The readings that suit point i.
-fn range_at(spans: &[u16], i: usize) -> Range
-    requires { ⌜ 4 * i + 1 < length (now spans) ⌝ }
-    ensures { λ r. ⌜ Ranged (getD (now (spans .entry)) (4 * i) 0) (getD (now (spans .entry)) (4 * i + 1) 0) (r .any) (r .least) (r .more) ⌝ }
+fn range_at(spans: &[u16; 256], i: usize) -> Range
+    requires { ⌜ i < maxPoints ⌝ }
+    ensures { λ r. ⌜ Ranged (getD (now (spans .entry)) i 0) (getD (now (spans .entry)) (maxPoints + i) 0) (r .any) (r .least) (r .more) ⌝ }
 {
-    range_of(spans[4 * i], spans[4 * i + 1])
+    range_of(spans[i], spans[64 + i])
 }
 
-// The mark, or 0 where a is not in the range: one comparison, since what lies below the least wraps.
+// The mark, or 0 where a is not in the range.
 fn kept(mark: u8, range: Range, a: u8) -> u8
     ensures { λ r. ⌜
         (a ≤ 255) × (range .least + range .more ≤ 255 → r ≡ cond (spanFits (range .least) (range .least + range .more) a) mark 0) ⌝ }
 {
-    if std::num::wrapping_sub_u8(a, range.least) <= range.more {
+    if reading::is_among(range.least, range.more, a) {
         mark
     } else {
         0
@@ -93,8 +93,15 @@ fn smaller(a: u8, b: u8) -> u8
 
 // Holds the 64 windows from s on to three of their points: the i-th from the front, the i-th after a third of them, and the i-th from the back. They
 // lie apart, because neighbours are often alike, and a window that suits the one suits the other. Answers the largest mark that is left.
-fn sift(marks: &mut [u8; 64], spans: &[u16], m: usize, recording: &[u8], s: usize, i: usize) -> u8
-    requires { ⌜ (3 * i < m) × (4 * m ≤ length (now spans)) × (s + 63 + m ≤ length (now recording)) × (length (now recording) ≤ maxReadings) ⌝ }
+fn sift(
+    marks: &mut [u8; 64],
+    spans: &[u16; 256],
+    m: usize,
+    recording: &[u8],
+    s: usize,
+    i: usize,
+) -> u8
+    requires { ⌜ (3 * i < m) × (m ≤ maxPoints) × (s + 63 + m ≤ length (now recording)) × (length (now recording) ≤ maxReadings) ⌝ }
     requires { ⌜ Entries (λ j. mark (passes (ruleIn (now spans) .fit) m (now recording) (s + j) i)) 64 (now marks) ⌝ }
     ensures { λ r. ⌜
         Entries (λ j. mark (passes (ruleIn (now (spans .entry)) .fit) m (now (recording .entry)) (s + j) (i + 1))) 64 (now (marks .exit))
@@ -120,8 +127,8 @@ fn sift(marks: &mut [u8; 64], spans: &[u16], m: usize, recording: &[u8], s: usiz
 }
 
 // Which of the 64 windows from s on fit.
-pub fn sifted(spans: &[u16], m: usize, recording: &[u8], s: usize) -> Fitting
-    requires { ⌜ (1 ≤ m) × (4 * m ≤ length (now spans)) × (s + 63 + m ≤ length (now recording)) × (length (now recording) ≤ maxReadings) ⌝ }
+pub fn sifted(spans: &[u16; 256], m: usize, recording: &[u8], s: usize) -> Fitting
+    requires { ⌜ (1 ≤ m) × (m ≤ maxPoints) × (s + 63 + m ≤ length (now recording)) × (length (now recording) ≤ maxReadings) ⌝ }
     ensures { λ r. ⌜
         Entries (λ j. mark (allFit (ruleIn (now (spans .entry)) .fit) (now (recording .entry)) (s + j) m)) 64 (r .marks)
         × (r .any ≡ some (λ j. allFit (ruleIn (now (spans .entry)) .fit) (now (recording .entry)) (s + j) m) 64) ⌝ }

@@ -24,7 +24,7 @@ pub fn search(
         (length (skipWalk (fitOf (dOf delta gamma) (now (points .entry))) (length (now (points .entry))) (now (recording .entry))))
         (lent (now (list .entry)) (now (sums .entry))) r (lent (now (list .exit)) (now (sums .exit))) ⌝ }
 {
-    let checked = fit::checked_search(points, delta, gamma, recording);
+    let checked = limits::checked_search(points, delta, gamma, recording);
     let found = fit::begin(checked.refusal);
     if found.refusal != 0 {
         return found;
@@ -37,7 +37,7 @@ pub fn search(
 
 // The same for a profile of m points that is compiled to spans, whatever its points are.
 pub fn over_spans(
-    spans: &[u16],
+    spans: &[u16; 256],
     m: usize,
     gamma: u32,
     recording: &[u8],
@@ -45,7 +45,7 @@ pub fn over_spans(
     sums: &mut [u16],
     start: Search,
 ) -> Search
-    requires { ⌜ Ready (now spans) m gamma (length (now recording)) × (start ≡ begun 0) ⌝ }
+    requires { ⌜ Ready m gamma (length (now recording)) × (start ≡ begun 0) ⌝ }
     ensures { λ r. ⌜
         Answer 0 (soughtBy (ruleIn (now (spans .entry))) m gamma (now (recording .entry)))
         (length (skipWalk (ruleIn (now (spans .entry)) .fit) m (now (recording .entry))))
@@ -57,7 +57,6 @@ pub fn over_spans(
     }
     let near = marks::near_masks(spans, m);
     let counts = marks::mark_counts(&near);
-    let costs = fitted::costs_of(spans, m);
     let mut found = start;
     let mut q = m - 1;
     // the probes all of whose windows lie inside
@@ -67,7 +66,7 @@ pub fn over_spans(
         q = stop.q;
         if q + m <= recording.len() {
             found = stops::settle(
-                &costs,
+                spans,
                 m,
                 gamma,
                 &near,
@@ -91,7 +90,7 @@ pub fn over_spans(
 
 // The same without tables: every point is asked at every probe.
 fn point_by_point(
-    spans: &[u16],
+    spans: &[u16; 256],
     m: usize,
     gamma: u32,
     recording: &[u8],
@@ -99,7 +98,7 @@ fn point_by_point(
     sums: &mut [u16],
     start: Search,
 ) -> Search
-    requires { ⌜ Ready (now spans) m gamma (length (now recording)) × (start ≡ begun 0) ⌝ }
+    requires { ⌜ Ready m gamma (length (now recording)) × (start ≡ begun 0) ⌝ }
     ensures { λ r. ⌜
         Answer 0 (soughtBy (ruleIn (now (spans .entry))) m gamma (now (recording .entry)))
         (length (skipWalk (ruleIn (now (spans .entry)) .fit) m (now (recording .entry))))
@@ -116,7 +115,7 @@ fn point_by_point(
 
 // Tries the windows of the probe at q: those that put a near point there, the highest point first, and that lie inside.
 fn try_probed(
-    spans: &[u16],
+    spans: &[u16; 256],
     m: usize,
     gamma: u32,
     recording: &[u8],
@@ -125,7 +124,7 @@ fn try_probed(
     q: usize,
     before: Search,
 ) -> Search
-    requires { ⌜ Ready (now spans) m gamma (length (now recording)) × (q < length (now recording)) × (m ≤ q + 1) ⌝ }
+    requires { ⌜ Ready m gamma (length (now recording)) × (q < length (now recording)) × (m ≤ q + 1) ⌝ }
     requires { ⌜ (before .total ≤ before .tried) × (before .tried + m ≤ q + 1) ⌝ }
     ensures { λ r. ⌜
         TriedAll (soughtBy (ruleIn (now (spans .entry))) m gamma (now (recording .entry)))
@@ -138,7 +137,7 @@ fn try_probed(
     let mut i = m;
     while 0 < i {
         i -= 1;
-        if window::suits(spans, i, a) {
+        if spans::suits(spans, i, a) {
             if q - i + m <= n {
                 found = window::try_at(spans, m, gamma, recording, list, sums, q - i, found);
             }

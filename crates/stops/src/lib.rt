@@ -5,13 +5,13 @@ ghost use mathlib.Core.Bool.{Bool};
 ghost use Prim.Native.Nat.{ℕ, _+_, _-_, _*_, _≤_, _<_, _^_};
 ghost use lib.ListN.{length};
 ghost use Rattle.fit.specs.Reading.{highest};
-ghost use Rattle.fit.specs.Rule.{Rule, allFit};
+ghost use Rattle.fit.specs.Rule.{allFit};
 ghost use Rattle.fit.specs.Refusal.{maxPoints, maxGamma, maxReadings};
+ghost use Rattle.fit.specs.Spans.{ruleIn};
 ghost use Rattle.fit.specs.Answer.{soughtBy, lent};
 ghost use Rattle.fit.specs.Trying.{TriedAll};
 ghost use Rattle.marks.specs.Marks.{bit, Marks};
 ghost use Rattle.probe.specs.Around.{aroundSuits};
-ghost use Rattle.fitted.specs.Costs.{CostTable};
 ghost use Rattle.stops.specs.Passing.{Tables, windowsAt, nearWindows, Passed, StopsAt};
 
 // Where the search stops: the probe's position, how many windows put a near point at a probe that was passed, and its own windows that are worth a
@@ -61,7 +61,7 @@ pub fn next_stop(
 // Tries the windows that put a near point at the probe y[q]. Those of the mask are worth a look; of these, those that suit all their points are noted
 // by their sums. All are counted.
 pub fn settle(
-    costs: &[u16; 128],
+    spans: &[u16; 256],
     m: usize,
     gamma: u32,
     near: &[u64; 256],
@@ -76,19 +76,20 @@ pub fn settle(
     requires { ⌜ (1 ≤ m) × (m ≤ maxPoints) × (gamma ≤ maxGamma) × (length (now recording) ≤ maxReadings) × (m ≤ q + 1) × (q + m ≤ length (now recording)) ⌝ }
     requires { ⌜ (before .total ≤ before .tried) × (before .tried + m ≤ q + 1) × (mask < 2 ^ m) ⌝ }
     ensures { λ r. ⌜
-        ((rule : Rule) → Tables m (rule .fit) (now (near .entry)) (now (counts .entry)) → CostTable m (rule .cost) (now (costs .entry))
-        → Marks m (aroundSuits (rule .fit) m (now (recording .entry)) q 1) mask
-        → TriedAll (soughtBy rule m gamma (now (recording .entry))) (nearWindows (rule .fit) m (now (recording .entry)) q) before
+        (Tables m (ruleIn (now (spans .entry)) .fit) (now (near .entry)) (now (counts .entry))
+        → Marks m (aroundSuits (ruleIn (now (spans .entry)) .fit) m (now (recording .entry)) q 1) mask
+        → TriedAll (soughtBy (ruleIn (now (spans .entry))) m gamma (now (recording .entry)))
+        (nearWindows (ruleIn (now (spans .entry)) .fit) m (now (recording .entry)) q) before
         (lent (now (list .entry)) (now (sums .entry))) r (lent (now (list .exit)) (now (sums .exit)))) ⌝ }
 {
     let kept = probe::fitting(near, m, recording, q, mask);
-    let found = try_marked(costs, m, gamma, recording, list, sums, q, kept, before);
+    let found = try_marked(spans, m, gamma, recording, list, sums, q, kept, before);
     noting::count_all(before.tried + marks::count_at(counts, recording[q]), found)
 }
 
 // Tries the windows that put a marked point at y[q], the highest point first; they suit all their points.
 fn try_marked(
-    costs: &[u16; 128],
+    spans: &[u16; 256],
     m: usize,
     gamma: u32,
     recording: &[u8],
@@ -101,9 +102,8 @@ fn try_marked(
     requires { ⌜ (m ≤ maxPoints) × (gamma ≤ maxGamma) × (length (now recording) ≤ maxReadings) × (m ≤ q + 1) × (q + m ≤ length (now recording)) ⌝ }
     requires { ⌜ (before .total ≤ before .tried) × (before .tried + m ≤ q + 1) × (mask < 2 ^ m) ⌝ }
     ensures { λ r. ⌜
-        ((rule : Rule) → CostTable m (rule .cost) (now (costs .entry))
-        → Marks m (λ (i : ℕ). allFit (rule .fit) (now (recording .entry)) (q - i) m) mask
-        → TriedAll (soughtBy rule m gamma (now (recording .entry))) (windowsAt (bit mask) q m) before
+        (Marks m (λ (i : ℕ). allFit (ruleIn (now (spans .entry)) .fit) (now (recording .entry)) (q - i) m) mask
+        → TriedAll (soughtBy (ruleIn (now (spans .entry))) m gamma (now (recording .entry))) (windowsAt (bit mask) q m) before
         (lent (now (list .entry)) (now (sums .entry))) r (lent (now (list .exit)) (now (sums .exit)))) ⌝ }
 {
     let mut found = before;
@@ -114,7 +114,7 @@ fn try_marked(
         let taken = marks::take_highest(left);
         i = taken.point;
         left = taken.left;
-        found = fitted::try_fitting(costs, m, gamma, recording, list, sums, q - i, found);
+        found = window::try_fitting(spans, m, gamma, recording, list, sums, q - i, found);
     }
     found
 }

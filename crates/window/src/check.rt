@@ -1,13 +1,12 @@
-// The window check.
+// The window check, whether a window is a place, and how many windows there are.
 use fit::Verdict;
 ghost use mathlib.Core.Path.{_≡_};
-ghost use Prim.Native.Nat.{_+_, _*_, _≤_};
+ghost use Prim.Native.Nat.{_+_, _≤_};
 ghost use lib.ListN.{length};
-ghost use lib.Dec.{eqb};
 ghost use Rattle.fit.specs.Rule.{isPlaceBy};
 ghost use Rattle.fit.specs.Place.{windows};
-ghost use Rattle.fit.specs.Refusal.{maxPoints};
-ghost use Rattle.fit.specs.Verdict.{toldOf, placeSum, verdictBy};
+ghost use Rattle.fit.specs.Refusal.{maxPoints, maxGamma};
+ghost use Rattle.fit.specs.Verdict.{toldOf, verdictBy};
 ghost use Rattle.fit.specs.Spans.{ruleIn};
 
 // How many windows of m readings lie inside the recording.
@@ -19,16 +18,16 @@ pub fn count_windows(m: usize, recording: &[u8]) -> usize
 }
 
 // Checks the window at s. It leaves at the first point whose reading does not suit it, and tells that point as document 01 numbers it, from 1.
-pub fn check_at(spans: &[u16], m: usize, gamma: u32, recording: &[u8], s: usize) -> Verdict
-    requires { ⌜ (m ≤ maxPoints) × (4 * m ≤ length (now spans)) × (s + m ≤ length (now recording)) ⌝ }
+pub fn check_at(spans: &[u16; 256], m: usize, gamma: u32, recording: &[u8], s: usize) -> Verdict
+    requires { ⌜ (m ≤ maxPoints) × (s + m ≤ length (now recording)) ⌝ }
     ensures { λ r. ⌜ toldOf r ≡ verdictBy (ruleIn (now (spans .entry))) m gamma (now (recording .entry)) s ⌝ }
 {
     let mut sum: u32 = 0;
     let mut i = 0;
     while i < m {
         let a = recording[s + i];
-        if super::spans::suits(spans, i, a) {
-            sum += super::spans::cost(spans, i, a);
+        if spans::suits(spans, i, a) {
+            sum += spans::cost(spans, i, a);
             i += 1;
         } else {
             return Verdict::Far(i + 1);
@@ -41,32 +40,10 @@ pub fn check_at(spans: &[u16], m: usize, gamma: u32, recording: &[u8], s: usize)
     }
 }
 
-// Whether the verdict is that the window is a place.
-pub(crate) fn fits(verdict: Verdict) -> bool
-    ensures { λ r. ⌜ r ≡ eqb (toldOf verdict .kind) 1 ⌝ }
-{
-    match verdict {
-        Verdict::Fits(_) => true,
-        Verdict::Far(_) => false,
-        Verdict::Over(_) => false,
-    }
-}
-
-// The sum of a place; 0 where the verdict is that the window is none.
-pub(crate) fn place_sum(verdict: Verdict) -> u32
-    ensures { λ r. ⌜ r ≡ placeSum (toldOf verdict) ⌝ }
-{
-    match verdict {
-        Verdict::Fits(sum) => sum,
-        Verdict::Far(_) => 0,
-        Verdict::Over(_) => 0,
-    }
-}
-
 // Whether the window at s is a place, for those that ask neither reason nor sum.
-pub fn is_place(spans: &[u16], m: usize, gamma: u32, recording: &[u8], s: usize) -> bool
-    requires { ⌜ (m ≤ maxPoints) × (4 * m ≤ length (now spans)) × (s + m ≤ length (now recording)) ⌝ }
+pub fn is_place(spans: &[u16; 256], m: usize, gamma: u32, recording: &[u8], s: usize) -> bool
+    requires { ⌜ (m ≤ maxPoints) × (s + m ≤ length (now recording)) × (gamma ≤ maxGamma) ⌝ }
     ensures { λ r. ⌜ r ≡ isPlaceBy (ruleIn (now (spans .entry))) m gamma (now (recording .entry)) s ⌝ }
 {
-    fits(check_at(spans, m, gamma, recording, s))
+    spans::score_at(spans, m, recording, s) as u32 <= gamma
 }

@@ -11,7 +11,7 @@ ghost use Rattle.words.specs.Most.{maxWords};
 // The most words that the counters take: 64 counters of 15 bits, four to a word.
 pub const MAX_WORDS: usize = 16;
 
-// Reads the recording once, in four words or more.
+// Reads the recording once, for more words than three; it would serve any number.
 fn scan_more(
     k: Masks,
     m: usize,

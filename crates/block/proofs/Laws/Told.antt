@@ -13,8 +13,8 @@ use Rattle.fit.specs.Rule.{Rule, sumCost, isPlaceBy}
 use Rattle.fit.specs.Verdict.{verdictBy}
 use Rattle.fit.specs.Refusal.{maxGamma}
 use Rattle.fit.specs.Listing.{Entries}
-use Rattle.score.specs.Score.{scoreIn}
-use Rattle.score.proofs.Laws.Scores.{score-place, score-sum}
+use Rattle.spans.specs.Score.{scoreIn}
+use Rattle.spans.proofs.Laws.Scores.{score-place, score-sum}
 use Rattle.block.specs.Block.{toldBy, NoneBelow}
 
 -- ---- the window at s + j, by its score

@@ -26,7 +26,7 @@ returns : tie.Need-returns
 returns c =
     let noted = c .before .before .before .before in
     let scored = noted .before .before .before .before in
-    let known = scored .before .before .before .before .before .before .before .before .before .pre in
+    let known = scored .before .before .before .before .before .before .before .before .pre in
     let told = scored .scores .ensures _ in
     run-same _ _ _ _ (told-places _ _ _ _ _ told (known .0 .1) (known .0 .0 .gamma-small)) (told-sums _ _ _ _ _ told (known .0 .1) (known .0 .0 .gamma-small))
     (noted .note-scored .ensures)

@@ -82,7 +82,7 @@ module _ (b g n : ℕ) (some : 1 ≤ n) where
           (grown-stands b g (across (suc b) n ws) c cost p s (length ws * n) (across-lt (suc b) n ws) cl cs (a .each) i (rw (← long) h));
     }
 
-    pub laid-turned : TurnedAcross b g n ws c cost rs
+    laid-turned : TurnedAcross b g n ws c cost rs
     laid-turned = record { long = long; laid = laid; agrees = laid-agrees }
 
   -- each word turned, with the counter entering it that left the word before, is all of them turned

@@ -82,23 +82,25 @@ pub looked-start : (p : ℕ → Bool) (bound : ℕ) {walk rest : List ℕ} → w
 unfolding noneOf
 looked-start p bound e = record { done = []; split = sym e; none = tt; count = refl; room = omega arith }
 
-pub looked-on : (p : ℕ → Bool) (s bound bound′ tried : ℕ) {walk rest rest′ : List ℕ} → Looked p walk rest bound tried → rest ≡ s ∷ rest′ → p s ≡ false
-    → bound < bound′ → Looked p walk rest′ bound′ (tried + 1)
-looked-on p s bound bound′ tried {rest′ = rest′} f e miss h = record {
+pub looked-on : (p : ℕ → Bool) (s bound bound′ tried : ℕ) (is : Bool) {walk rest rest′ : List ℕ} → Looked p walk rest bound tried → rest ≡ s ∷ rest′
+    → is ≡ p s → is ≡ false → bound < bound′ → Looked p walk rest′ bound′ (tried + 1)
+looked-on p s bound bound′ tried is {rest′ = rest′} f e told miss h = record {
   done = f .done ++ (s ∷ []);
   split = append-assoc (f .done) (s ∷ []) rest′ ∙ ap (λ (l : List ℕ). f .done ++ l) (sym e) ∙ f .split;
-  none = none-more p (f .done) s (f .none) miss;
+  none = none-more p (f .done) s (f .none) (sym told ∙ miss);
   count = rw (length-append, f .count);
   room = omega (arith, f .room);
 }
 
 -- ---- the answer, on a walk that has all that is sought among its windows
 module _ (t : Sought) (walk : List ℕ) (finds : those (t .place) walk ≡ all t) where
-  pub first-at : (s bound tried : ℕ) {rest rest′ : List ℕ} → Looked (t .place) walk rest bound tried → rest ≡ s ∷ rest′ → t .place s ≡ true
+  pub first-at : (s bound tried : ℕ) (is : Bool) {rest rest′ : List ℕ} → Looked (t .place) walk rest bound tried → rest ≡ s ∷ rest′
+      → is ≡ t .place s → is ≡ true
       → toldOf (record { refusal = 0; spot = At s; tried = tried + 1 }) ≡ firstAnswer 0 t walk
   unfolding firstAnswer numberOf valueOf
-  first-at s bound tried {rest′ = rest′} f e hit =
+  first-at s bound tried is {rest′ = rest′} f e told taken =
       let p = t .place in
+      let hit = sym told ∙ taken in
       let split : f .done ++ (s ∷ rest′) ≡ walk = ap (λ (l : List ℕ). f .done ++ l) (sym e) ∙ f .split in
       let listed : all t ≡ s ∷ those p rest′ =
       sym finds ∙ ap (those p) (sym split) ∙ those-past p (f .done) (s ∷ rest′) (f .none) ∙ those-front p s rest′ hit in

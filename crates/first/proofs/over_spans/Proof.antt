@@ -1,6 +1,6 @@
 -- `first::over_spans` meets its contract: it goes along last's walk as long as no window is a place. Assumes nothing.
 use Prim.Native.Nat.{_-_}
-use mathlib.Core.Path.{refl, sym, _∙_}
+use mathlib.Core.Path.{refl}
 use native.Mathlib.Omega.{arith}
 use lib.ListN.{length}
 use Rattle.fit.specs.Rule.{isPlaceBy}
@@ -28,7 +28,7 @@ tried-from-requires c κs = search needs
 
 loop-holds : tie.Need-loop-holds Inv-loop μ-loop
 loop-holds c =
-    let first = stands-first _ _ _ _ _ _ (c .before .before .before .pre) (λ i. omega (arith, c .before .shared-slice-known2 .given i)) _ (c .tried-from .ensures) in
+    let first = stands-first _ _ _ _ _ _ (c .before .before .pre) (λ i. omega (arith, c .before .shared-slice-known .given i)) _ (c .tried-from .ensures) in
     (first .0, looked-start _ _ (first .1))
 
 lands-at-requires : tie.Need-lands-at-requires Inv-loop μ-loop
@@ -50,8 +50,8 @@ returns : tie.Need-returns Inv-loop μ-loop
 returns c =
     let checked = c .before in
     let inv = checked .before .before .before .loop .inv in
-    first-at _ _ (walk-finds _ _ _ _ _ _ (inv .0 .walkable)) _ _ _ (inv .1) (stands-try _ _ _ _ _ _ _ (inv .0) (omega arith) _ _ refl refl)
-    (sym (checked .is-place .ensures) ∙ c .if1 .taken)
+    first-at _ _ (walk-finds _ _ _ _ _ _ (inv .0 .walkable)) _ _ _ _ (inv .1) (stands-try _ _ _ _ _ _ _ (inv .0) (omega arith) _ _ refl refl)
+    (checked .is-place .ensures) (c .if1 .taken)
 
 tried-from-requires-2 : tie.Need-tried-from-requires-2 Inv-loop μ-loop
 tried-from-requires-2 c κs = search needs
@@ -68,8 +68,8 @@ loop-again c =
     let inv = landed .before .before .loop .inv in
     let lands = landed .lands-at .ensures in (
       stands-next _ _ _ _ _ _ _ (inv .0) (omega arith) _ _ lands (c .tried-from2 .ensures),
-      looked-on _ _ _ _ _ (inv .1) (stands-try _ _ _ _ _ _ _ (inv .0) (omega arith) _ _ lands (c .tried-from2 .ensures))
-          (sym (missed .before .is-place .ensures) ∙ missed .if1 .left)
+      looked-on _ _ _ _ _ _ (inv .1) (stands-try _ _ _ _ _ _ _ (inv .0) (omega arith) _ _ lands (c .tried-from2 .ensures))
+          (missed .before .is-place .ensures) (missed .if1 .left)
           (omega (arith, inv .0 .from, stands-forth _ _ _ _ _ _ _ (inv .0) (omega arith) _ _ lands (c .tried-from2 .ensures))),
     )
 

@@ -21,10 +21,10 @@ returns : tie.Need-returns
 returns c = first-refused _ _ _ _ (prepared-number _ _ _ _ _ (c .before .prepare .ensures)) (c .if1 .taken)
 
 over-spans-requires : tie.Need-over-spans-requires
-over-spans-requires c κs = started (c .before .before .before .before .before) .walkable
+over-spans-requires c κs = started (c .before .before .before .before) .walkable
 
 returns-2 : tie.Need-returns-2
-returns-2 c = going-first _ _ _ _ (started (c .before .before .before .before .before .before)) (c .over-spans .ensures)
+returns-2 c = going-first _ _ _ _ (started (c .before .before .before .before .before)) (c .over-spans .ensures)
 
 pub search-spec : {M : Type 1} → statement M
 search-spec =

@@ -11,8 +11,6 @@ use Rattle.fit.specs.Refusal.{searchRefusal, Accepted}
 use Rattle.fit.specs.Listing.{upTo, places, overlay}
 use Rattle.fit.specs.Sums.{leastOf, lowered}
 use Rattle.fit.specs.Answer.{Sought, soughtBy, soughtOf, all, Lent, lent, laid, begun, tally, outcome, filled, Answer, Answers, noted, listed, Noted}
-use Rattle.fit.specs.Made.{searchChecked}
-use Rattle.fit.specs.declared.limits.Checked.{Checked}
 use Rattle.fit.specs.declared.answer.Search.{Search}
 use Rattle.fit.proofs.Laws.Listings.{up-short}
 use Rattle.fit.proofs.Laws.Sums.{sums-same}
@@ -22,10 +20,6 @@ use Rattle.fit.proofs.Laws.Refusals.{never-four, none-exactly}
 -- ---- a search that has begun
 pub begun-number : (num : ℕ) {r : Search} → r ≡ begun num → r .refusal ≡ num
 begun-number num e = ap (λ (r : Search). r .refusal) e
-
--- its number is that of its checked input
-pub begins : (delta gamma : ℕ) (x y : List ℕ) {q : Checked} {r : Search} → q ≡ searchChecked delta gamma x y → r ≡ begun (q .refusal) → r ≡ begun (searchRefusal delta gamma x y)
-begins delta gamma x y e b = b ∙ ap (λ (q : Checked). begun (q .refusal)) e
 
 -- it is refused
 refused-by : (num : ℕ) (t : Sought) (tried : ℕ) (entry : Lent) → (num ≡ 0 → ⊥) → Answer num t tried entry (begun num) entry

@@ -1,13 +1,13 @@
 -- Laws of spans: what the compiling loop lays, and that the numbers ask what the profile's rule asks. Assumes nothing.
-use mathlib.Core.Path.{_≡_, refl, sym, ap, _∙_}
+use mathlib.Core.Path.{_≡_, refl, sym, ap, ap₂, _∙_}
 use mathlib.Core.Bool.{true, _&&_}
-use mathlib.Core.List.{List, [], _∷_, _++_, append-assoc}
+use mathlib.Core.List.{List, [], _∷_, _++_, map, map-append}
 use Prim.Native.Nat.{ℕ, zero, suc, _+_, _-_, _*_, _≤_, _<_, max}
-use native.Mathlib.Nat.{zero-add, add-zero, not-suc-le-zero, le-of-suc-le-suc}
+use native.Mathlib.Nat.{zero-add, suc-add, not-suc-le-zero, le-of-suc-le-suc}
 use native.Mathlib.Numerals.{add-one}
 use native.Mathlib.Omega.{arith}
-use lib.ListN.{length, take, set, getD, replicate, length-append, length-replicate, List·getD-append}
-use lib.Seq.{take-suc, length-take-le, getD-append-add}
+use lib.ListN.{length, take, set, getD, replicate, length-set, length-map, length-replicate, List·getD-append}
+use lib.Seq.{take-suc, length-take-le, getD-append-add, set-append-left}
 use lib.Dec.{leb, eqb}
 use borrow.Author.Tests.{leb-true, le-leb, eqb-true, eq-eqb}
 use Rattle.fit.specs.Reading.{lowest, near}
@@ -16,7 +16,7 @@ use Rattle.fit.specs.Place.{fitOf, costOf, ruleOf, sumDiff, Place, dOf}
 use Rattle.fit.specs.Verdict.{verdictBy, verdictOf}
 use Rattle.fit.specs.Listing.{overlay}
 use Rattle.fit.specs.Refusal.{maxPoints, Accepted}
-use Rattle.fit.specs.Spans.{spanFits, ruleIn, spanOf, spansFor, spansOf, Ready}
+use Rattle.fit.specs.Spans.{spanFits, spanCost, ruleIn, row, rows, spansOf, Ready}
 use Rattle.fit.specs.Answer.{soughtBy, soughtOf, Lent, Answer, Answers}
 use Rattle.fit.specs.declared.answer.Search.{Search}
 use Rattle.fit.proofs.Laws.Bools.{and-left, and-right, and-both, same-test}
@@ -26,84 +26,131 @@ use Rattle.fit.proofs.Laws.Places.{by-place, by-derived}
 use Rattle.fit.proofs.Laws.Verdicts.{same-verdict, verdict-derived}
 use Rattle.fit.proofs.Laws.Refusals.{none-exactly}
 use Rattle.fit.proofs.Laws.Answers.{same-sought}
-use Rattle.fit.proofs.Laws.Listings.{overlay-none, overlay-more, length-overlay, overlay-at}
+use Rattle.fit.proofs.Laws.Listings.{overlay-more, length-overlay, overlay-at}
 
--- ---- four numbers a point
-length-spans : (delta : ℕ) (x : List ℕ) → length (spansFor delta x) ≡ 4 * length x
-unfolding spansFor
-length-spans delta [] = refl
-length-spans delta (p ∷ x) = omega (arith, length-spans delta x)
+-- ---- two lists, one behind the other: an entry of the second is read, and written
+behind-at : (a b : List ℕ) (n i : ℕ) → length a ≡ n → getD (a ++ b) (n + i) 0 ≡ getD b i 0
+behind-at a b n i e = rw (← e) (getD-append-add a b i 0)
 
-spans-behind : (delta p : ℕ) (x : List ℕ) → spansFor delta (x ++ (p ∷ [])) ≡ spansFor delta x ++ spanOf delta p
-unfolding spansFor
-spans-behind delta p [] = refl
-spans-behind delta p (q ∷ x) = ap (λ (l : List ℕ). spanOf delta q ++ l) (spans-behind delta p x)
+behind-set : (a b : List ℕ) (n i v : ℕ) → length a ≡ n → set (a ++ b) (n + i) v ≡ a ++ set b i v
+behind-set a b n i v e = rw (← e) (there a)
+  where
+    there : (l : List ℕ) → set (l ++ b) (length l + i) v ≡ l ++ set b i v
+    there [] = rw zero-add
+    there (p ∷ l) = rw suc-add (ap (λ (k : List ℕ). p ∷ k) (there l))
 
 -- an entry written behind what is laid
-laid-behind : (ps entry held : List ℕ) (k v : ℕ) → length ps ≡ k → held ≡ overlay ps entry → set held k v ≡ overlay (ps ++ (v ∷ [])) entry
-laid-behind ps entry held k v e q = rw (q, ← e) (overlay-more ps entry v)
+laid-behind : (ps entry : List ℕ) (k v : ℕ) → length ps ≡ k → set (overlay ps entry) k v ≡ overlay (ps ++ (v ∷ [])) entry
+laid-behind ps entry k v e = rw (← e) (overlay-more ps entry v)
 
-long-behind : (ps : List ℕ) (k v : ℕ) → length ps ≡ k → length (ps ++ (v ∷ [])) ≡ k + 1
-long-behind ps k v e = rw (length-append, e)
+-- ---- a row
+length-row : {A : Type 0} (say : A → ℕ) (x : List A) → length (row say x) ≡ maxPoints
+length-row say x = length-overlay (map say x) (replicate maxPoints 0) ∙ length-replicate {A = ℕ} maxPoints 0
 
--- four of them, one after the other
-four-behind : (ps entry held : List ℕ) (k a b c d : ℕ) → length ps ≡ k → held ≡ overlay ps entry
-    → set (set (set (set held k a) (k + 1) b) (k + 2) c) (k + 3) d ≡ overlay (ps ++ (a ∷ b ∷ c ∷ d ∷ [])) entry
-four-behind ps entry held k a b c d e q =
-    let ps1 = ps ++ (a ∷ []) in
-    let ps2 = ps1 ++ (b ∷ []) in
-    let ps3 = ps2 ++ (c ∷ []) in
-    let e1 : length ps1 ≡ k + 1 = long-behind ps k a e in
-    let e2 : length ps2 ≡ k + 2 = omega (arith, long-behind ps1 (k + 1) b e1) in
-    let e3 : length ps3 ≡ k + 3 = omega (arith, long-behind ps2 (k + 2) c e2) in
-    let q1 = laid-behind ps entry held k a e q in
-    let q2 = laid-behind ps1 entry (set held k a) (k + 1) b e1 q1 in
-    let q3 = laid-behind ps2 entry (set (set held k a) (k + 1) b) (k + 2) c e2 q2 in
-    let q4 = laid-behind ps3 entry (set (set (set held k a) (k + 1) b) (k + 2) c) (k + 3) d e3 q3 in
-    q4 ∙ ap (λ (l : List ℕ). overlay l entry) (simp append-assoc)
+module _ {A : Type 0} (say : A → ℕ) (none : A) where
+  -- what is said of the point behind the first i
+  row-next : (x : List A) (i v : ℕ) → i < length x → v ≡ say (getD x i none) → set (row say (take i x)) i v ≡ row say (take (i + 1) x)
+  row-next x i v h e =
+      let long : length (map say (take i x)) ≡ i = length-map (take i x) say ∙ length-take-le i x (omega arith) in
+      let more : take (i + 1) x ≡ take i x ++ (getD x i none ∷ []) = rw (add-one i) (take-suc x i none h) in
+      let said : map say (take (i + 1) x) ≡ map say (take i x) ++ (v ∷ []) = rw (more, e) (map-append say (take i x) (getD x i none ∷ [])) in
+      rw said (laid-behind (map say (take i x)) (replicate maxPoints 0) i v long)
 
--- the loop: no spans are laid; those of the first i points are, and those of one more
-pub spans-none : (delta : ℕ) (x entry : List ℕ) → entry ≡ overlay (spansFor delta (take 0 x)) entry
-unfolding spansFor
-spans-none delta x entry = sym (overlay-none entry)
+  said-at : (x : List A) (i : ℕ) → i < length x → getD (map say x) i 0 ≡ say (getD x i none)
+  said-at [] i h = absurd (not-suc-le-zero h)
+  said-at (p ∷ x) zero h = refl
+  said-at (p ∷ x) (suc i) h = said-at x i (le-of-suc-le-suc h)
 
-pub spans-next : (delta : ℕ) (x entry held : List ℕ) (i low p : ℕ) → i < length x → held ≡ overlay (spansFor delta (take i x)) entry
-    → p ≡ getD x i 0 → low ≡ max lowest (getD x i 0 - delta)
-    → set (set (set (set held (4 * i) low) (4 * i + 1) (p + delta)) (4 * i + 2) p) (4 * i + 3) p ≡ overlay (spansFor delta (take (i + 1) x)) entry
-spans-next delta x entry held i low p h q e l =
-    let v = getD x i 0 in
-    let long : length (spansFor delta (take i x)) ≡ 4 * i = omega (arith, length-spans delta (take i x), length-take-le i x (omega arith)) in
-    rw (add-one i, take-suc x i 0 h, spans-behind delta v (take i x), e, l)
-    (four-behind (spansFor delta (take i x)) entry held (4 * i) (max lowest (v - delta)) (v + delta) v v long q)
+  row-at : (x : List A) (i : ℕ) → length x ≤ maxPoints → i < length x → getD (row say x) i 0 ≡ say (getD x i none)
+  row-at x i few h =
+      overlay-at (map say x) (replicate maxPoints 0) i (omega (arith, length-map x say)) (omega (arith, length-map x say, length-replicate {A = ℕ} maxPoints 0))
+      ∙ said-at x i h
 
--- ---- what the numbers of point i are
-span-at : (delta : ℕ) (x : List ℕ) (i j : ℕ) → i < length x → j < 4 → getD (spansFor delta x) (4 * i + j) 0 ≡ getD (spanOf delta (getD x i 0)) j 0
-unfolding spansFor
-span-at delta [] i j h l = absurd (not-suc-le-zero h)
-span-at delta (p ∷ x) zero j h l = rw zero-add (List·getD-append (spanOf delta p) (spansFor delta x) 0 j l)
-span-at delta (p ∷ x) (suc i) j h l =
-    let e : 4 * suc i + j ≡ 4 + (4 * i + j) = omega arith in
-    rw e (getD-append-add (spanOf delta p) (spansFor delta x) (4 * i + j) 0 ∙ span-at delta x i j (le-of-suc-le-suc h) l)
+-- ---- four rows: an entry of each
+module _ {A : Type 0} (low high from to : A → ℕ) (x : List A) (i : ℕ) (h : i < maxPoints) where
+  first-at : getD (rows low high from to x) i 0 ≡ getD (row low x) i 0
+  first-at = List·getD-append (row low x) (row high x ++ (row from x ++ row to x)) 0 i (omega (arith, length-row low x))
 
-laid-at : (delta : ℕ) (x : List ℕ) (i j : ℕ) → length x ≤ maxPoints → i < length x → j < 4
-    → getD (spansOf delta x) (4 * i + j) 0 ≡ getD (spanOf delta (getD x i 0)) j 0
-laid-at delta x i j few h l =
-    overlay-at (spansFor delta x) (replicate (4 * maxPoints) 0) (4 * i + j) (omega (arith, length-spans delta x))
-    (omega (arith, length-spans delta x, length-replicate {A = ℕ} (4 * maxPoints) 0))
-    ∙ span-at delta x i j h l
+  second-at : getD (rows low high from to x) (maxPoints + i) 0 ≡ getD (row high x) i 0
+  second-at =
+      behind-at (row low x) (row high x ++ (row from x ++ row to x)) maxPoints i (length-row low x)
+      ∙ List·getD-append (row high x) (row from x ++ row to x) 0 i (omega (arith, length-row high x))
 
--- ---- one test for both ends: nothing below and nothing above
-pub in-is : (low high a under over : ℕ) → under ≡ low - a → over ≡ a - high → eqb (under + over) 0 ≡ spanFits low high a
-in-is low high a under over e f =
-    same-test (eqb (under + over) 0) (leb low a && leb a high)
-    (λ t. let z : under + over ≡ 0 = eqb-true (under + over) 0 t in
+  third-at : getD (rows low high from to x) (2 * maxPoints + i) 0 ≡ getD (row from x) i 0
+  third-at =
+      let e : 2 * maxPoints + i ≡ maxPoints + (maxPoints + i) = omega arith in
+      rw e (behind-at (row low x) (row high x ++ (row from x ++ row to x)) maxPoints (maxPoints + i) (length-row low x)
+      ∙ behind-at (row high x) (row from x ++ row to x) maxPoints i (length-row high x)
+      ∙ List·getD-append (row from x) (row to x) 0 i (omega (arith, length-row from x)))
+
+  fourth-at : getD (rows low high from to x) (3 * maxPoints + i) 0 ≡ getD (row to x) i 0
+  fourth-at =
+      let e : 3 * maxPoints + i ≡ maxPoints + (maxPoints + (maxPoints + i)) = omega arith in
+      rw e (behind-at (row low x) (row high x ++ (row from x ++ row to x)) maxPoints (maxPoints + (maxPoints + i)) (length-row low x)
+      ∙ behind-at (row high x) (row from x ++ row to x) maxPoints (maxPoints + i) (length-row high x)
+      ∙ behind-at (row from x) (row to x) maxPoints i (length-row from x))
+
+-- one entry written in each of four lists
+four-set : (a b c d : List ℕ) (i u v w z : ℕ) → length a ≡ maxPoints → length b ≡ maxPoints → length c ≡ maxPoints → i < maxPoints
+    → set (set (set (set (a ++ (b ++ (c ++ d))) i u) (maxPoints + i) v) (2 * maxPoints + i) w) (3 * maxPoints + i) z
+    ≡ set a i u ++ (set b i v ++ (set c i w ++ set d i z))
+four-set a b c d i u v w z la lb lc h =
+    let a′ = set a i u in
+    let b′ = set b i v in
+    let c′ = set c i w in
+    let la′ = length-set a i u ∙ la in
+    let lb′ = length-set b i v ∙ lb in
+    let e2 : 2 * maxPoints + i ≡ maxPoints + (maxPoints + i) = omega arith in
+    let e3 : 3 * maxPoints + i ≡ maxPoints + (maxPoints + (maxPoints + i)) = omega arith in
+    let first = set-append-left a (b ++ (c ++ d)) i u (omega (arith, la)) in
+    let second = behind-set a′ (b ++ (c ++ d)) maxPoints i v la′ ∙ ap (λ (l : List ℕ). a′ ++ l) (set-append-left b (c ++ d) i v (omega (arith, lb))) in
+    let third = behind-set a′ (b′ ++ (c ++ d)) maxPoints (maxPoints + i) w la′
+    ∙ ap (λ (l : List ℕ). a′ ++ l) (behind-set b′ (c ++ d) maxPoints i w lb′)
+    ∙ ap (λ (l : List ℕ). a′ ++ (b′ ++ l)) (set-append-left c d i w (omega (arith, lc))) in
+    let fourth = behind-set a′ (b′ ++ (c′ ++ d)) maxPoints (maxPoints + (maxPoints + i)) z la′
+    ∙ ap (λ (l : List ℕ). a′ ++ l) (behind-set b′ (c′ ++ d) maxPoints (maxPoints + i) z lb′)
+    ∙ ap (λ (l : List ℕ). a′ ++ (b′ ++ l)) (behind-set c′ d maxPoints i z (length-set c i w ∙ lc)) in
+    rw (first, second, e2, third, e3) fourth
+
+module _ {A : Type 0} (low high from to : A → ℕ) (none : A) (x : List A) where
+  -- ---- the loop that lays them: no point is laid, and the point behind the first i
+  pub rows-none : replicate (4 * maxPoints) 0 ≡ rows low high from to (take 0 x)
+  unfolding overlay
+  rows-none = refl
+
+  pub rows-next : (held : List ℕ) (i u v w z : ℕ) → i < length x → i < maxPoints → held ≡ rows low high from to (take i x)
+      → u ≡ low (getD x i none) → v ≡ high (getD x i none) → w ≡ from (getD x i none) → z ≡ to (getD x i none)
+      → set (set (set (set held i u) (maxPoints + i) v) (2 * maxPoints + i) w) (3 * maxPoints + i) z ≡ rows low high from to (take (i + 1) x)
+  rows-next held i u v w z h few q eu ev ew ez =
+      let before = take i x in
+      rw (q, ← row-next low none x i u h eu, ← row-next high none x i v h ev, ← row-next from none x i w h ew, ← row-next to none x i z h ez)
+      (four-set (row low before) (row high before) (row from before) (row to before) i u v w z
+      (length-row low before) (length-row high before) (length-row from before) few)
+
+  -- ---- the rule that they say, at point i
+  module _ (few : length x ≤ maxPoints) (i a : ℕ) (h : i < length x) where
+    pub rows-fit : ruleIn (rows low high from to x) .fit i a ≡ spanFits (low (getD x i none)) (high (getD x i none)) a
+    rows-fit =
+        ap₂ (λ (l k : ℕ). spanFits l k a) (first-at low high from to x i (omega arith) ∙ row-at low none x i few h)
+        (second-at low high from to x i (omega arith) ∙ row-at high none x i few h)
+
+    pub rows-cost : ruleIn (rows low high from to x) .cost i a ≡ spanCost (from (getD x i none)) (to (getD x i none)) a
+    rows-cost =
+        ap₂ (λ (l k : ℕ). spanCost l k a) (third-at low high from to x i (omega arith) ∙ row-at from none x i few h)
+        (fourth-at low high from to x i (omega arith) ∙ row-at to none x i few h)
+
+-- ---- one test for both ends: a reading lies between them where it lies nothing outside
+pub in-is : (low high a v : ℕ) → v ≡ spanCost low high a → eqb v 0 ≡ spanFits low high a
+in-is low high a v e =
+    same-test (eqb v 0) (leb low a && leb a high)
+    (λ t. let z : v ≡ 0 = eqb-true v 0 t in
     and-both (leb low a) (leb a high) (le-leb low a (omega arith)) (le-leb a high (omega arith)))
     (λ t. let l = leb-true low a (and-left (leb low a) (leb a high) t) in
     let h = leb-true a high (and-right (leb low a) (leb a high) t) in
-    eq-eqb (under + over) 0 (omega arith))
+    eq-eqb v 0 (omega arith))
 
 -- ---- the numbers ask what the points ask
-span-near : (delta p a : ℕ) → spanFits (max lowest (p - delta)) (p + delta) a ≡ near delta p a
+pub span-near : (delta p a : ℕ) → spanFits (max lowest (p - delta)) (p + delta) a ≡ near delta p a
 span-near delta p a =
     same-test (leb (max lowest (p - delta)) a && leb a (p + delta)) (near delta p a)
     (λ t. let l = leb-true (max lowest (p - delta)) a (and-left (leb (max lowest (p - delta)) a) (leb a (p + delta)) t) in
@@ -113,23 +160,20 @@ span-near delta p a =
     (le-leb (max lowest (p - delta)) a (omega (arith, near-le delta p a t, near-lowest delta p a t)))
     (le-leb a (p + delta) (omega (arith, near-le delta p a t))))
 
+pub spans-none : (delta : ℕ) (x : List ℕ) → replicate (4 * maxPoints) 0 ≡ spansOf delta (take 0 x)
+spans-none delta x = rows-none (λ p. max lowest (p - delta)) (λ p. p + delta) (λ p. p) (λ p. p) 0 x
+
 span-cost : (delta : ℕ) (x : List ℕ) → length x ≤ maxPoints → (i a : ℕ) → i < length x → ruleIn (spansOf delta x) .cost i a ≡ costOf x i a
-span-cost delta x few i a l = rw (laid-at delta x i 2 few l (omega arith), laid-at delta x i 3 few l (omega arith))
+span-cost delta x few i a l = rows-cost (λ p. max lowest (p - delta)) (λ p. p + delta) (λ p. p) (λ p. p) 0 x few i a l
 
 same-rule : (delta : ℕ) (x : List ℕ) → length x ≤ maxPoints → SameRule (length x) (ruleIn (spansOf delta x)) (ruleOf delta x)
 same-rule delta x few = record {
   same-fit =
-      λ i a l. rw (rw add-zero at (laid-at delta x i 0 few l (omega arith)), laid-at delta x i 1 few l (omega arith)) (span-near delta (getD x i 0) a);
+      λ i a l. rows-fit (λ p. max lowest (p - delta)) (λ p. p + delta) (λ p. p) (λ p. p) 0 x few i a l ∙ span-near delta (getD x i 0) a;
   same-cost = λ i a l e. span-cost delta x few i a l;
 }
 
--- ---- a profile that is compiled: it has its four numbers a point, and their rule asks what the profile's does
-pub compiled-size : (d : ℕ) (x spans : List ℕ) → spans ≡ spansOf d x → length spans ≡ 4 * maxPoints
-compiled-size d x spans made = ap length made ∙ length-overlay (spansFor d x) (replicate (4 * maxPoints) 0) ∙ length-replicate {A = ℕ} (4 * maxPoints) 0
-
-pub compiled-long : (d : ℕ) (x spans : List ℕ) → spans ≡ spansOf d x → length x ≤ maxPoints → 4 * length x ≤ length spans
-compiled-long d x spans made few = omega (arith, compiled-size d x spans made)
-
+-- ---- a profile that is compiled: the rule of its numbers asks what the profile's does
 module _ (delta gamma : ℕ) (x spans : List ℕ) (made : spans ≡ spansOf (dOf delta gamma) x) (few : length x ≤ maxPoints) where
   compiled-rule : SameRule (length x) (ruleIn spans) (ruleOf (dOf delta gamma) x)
   compiled-rule = rw made (same-rule (dOf delta gamma) x few)
@@ -151,16 +195,10 @@ module _ (delta gamma : ℕ) (x spans : List ℕ) (made : spans ≡ spansOf (dOf
   compiled-verdict y s = same-verdict (length x) (ruleIn spans) (ruleOf (dOf delta gamma) x) compiled-rule gamma y s ∙ verdict-derived delta gamma x y s
 
 -- a search that is accepted is ready to go over its spans, and what it answers there is its answer
-module _ (delta gamma : ℕ) (x y spans : List ℕ) (made : spans ≡ spansOf (dOf delta gamma) x) (ok : Accepted delta gamma x y) where
-  pub ready : Ready spans (length x) gamma (length y)
-  ready = record {
-    some = ok .asked .some;
-    few = ok .asked .few;
-    full = compiled-long (dOf delta gamma) x spans made (ok .asked .few);
-    gamma-small = ok .asked .gamma-small;
-    short = ok .short;
-  }
+pub ready : (delta gamma : ℕ) (x y : List ℕ) → Accepted delta gamma x y → Ready (length x) gamma (length y)
+ready delta gamma x y ok = record { some = ok .asked .some; few = ok .asked .few; gamma-small = ok .asked .gamma-small; short = ok .short }
 
+module _ (delta gamma : ℕ) (x y spans : List ℕ) (made : spans ≡ spansOf (dOf delta gamma) x) (ok : Accepted delta gamma x y) where
   pub compiled-sought : soughtBy (ruleIn spans) (length x) gamma y ≡ soughtOf delta gamma x y
   compiled-sought =
       same-sought (ruleIn spans) delta gamma x y (compiled-by delta gamma x spans made (ok .asked .few) y) (compiled-sum delta gamma x spans made (ok .asked .few) y)

@@ -9,6 +9,7 @@ use native.Mathlib.Omega.{arith}
 use lib.ListN.{length}
 use lib.Dec.{ltb}
 use borrow.Author.Tests.{eqb-true, ltb-true, eq-eqb, lt-ltb}
+use Rattle.fit.specs.Place.{dOf}
 use Rattle.fit.specs.Chain.{NoneApplies, FirstInOrder}
 use Rattle.fit.specs.Refusal.{maxPoints, maxDelta, maxGamma, maxReadings, noPoints, manyPoints, zeroPoint, wideTolerance, manyReadings, profileReasons, questionReasons, searchReasons, orElse, ofProfile, ofTolerance, ofRecording, questionRefusal, searchRefusal, holdsZero, HoldsZero, BadProfile, BadTolerance, BadRecording, Asked, Accepted}
 use Rattle.fit.proofs.Laws.Bools.{or-cases, or-left, or-right, not-both, at-most}
@@ -245,3 +246,16 @@ module _ (delta gamma : ℕ) (x y : List ℕ) where
   pub search-joined : searchRefusal delta gamma x y ≡ orElse (questionRefusal delta gamma x) (ofRecording y)
   unfolding searchRefusal questionRefusal ofRecording
   search-joined = joined (questionReasons delta gamma x) (manyReadings y ∷ []) refl
+
+-- what is accepted by delta is accepted by d
+pub accepted-by-d : (delta gamma : ℕ) (x y : List ℕ) → Accepted delta gamma x y → Accepted (dOf delta gamma) gamma x y
+accepted-by-d delta gamma x y ok = record {
+  asked = record {
+    some = ok .asked .some;
+    few = ok .asked .few;
+    real = ok .asked .real;
+    delta-small = omega (arith, ok .asked .delta-small);
+    gamma-small = ok .asked .gamma-small;
+  };
+  short = ok .short;
+}

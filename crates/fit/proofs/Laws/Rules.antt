@@ -1,24 +1,28 @@
 -- Laws of a window under any rule, and that two rules that ask the same have the same places. Assumes nothing.
 use mathlib.Core.Path.{_≡_, refl, sym, ap₂, _∙_}
-use mathlib.Core.Bool.{Bool, true}
+use mathlib.Core.Bool.{Bool, true, false, _&&_}
 use mathlib.Core.Logic.{⊎-elim}
 use mathlib.Core.List.{List}
 use Prim.Native.Nat.{ℕ, zero, suc, _+_, _*_, _≤_, _<_}
-use native.Mathlib.Nat.{zero-mul, suc-mul, eq-or-lt-of-le, not-suc-le-zero, le-of-suc-le-suc}
+use native.Mathlib.Nat.{add-zero, zero-mul, suc-mul, eq-or-lt-of-le, not-suc-le-zero, le-of-suc-le-suc}
 use native.Mathlib.Numerals.{add-one}
 use native.Mathlib.Omega.{arith}
-use lib.ListN.{length}
+use lib.ListN.{length, getD}
 use lib.Dec.{leb}
 use borrow.Author.Tests.{leb-true, le-leb}
 use Rattle.fit.specs.Rule.{Rule, readingAt, allFit, sumCost, isPlaceBy, nearBy, cutAt, SameRule}
 use Rattle.fit.specs.Place.{windows}
-use Rattle.fit.proofs.Laws.Bools.{and-left, and-right, and-both, all-three, same-test}
+use Rattle.fit.proofs.Laws.Bools.{and-left, and-right, and-both, all-three, not-both, same-test, is-false}
 
 -- ---- the readings of a window
 module _ (fit : ℕ → ℕ → Bool) (y : List ℕ) (s : ℕ) where
   pub fit-none : allFit fit y s 0 ≡ true
   unfolding allFit
   fit-none = refl
+
+  pub fit-next : (k : ℕ) → allFit fit y s (k + 1) ≡ (allFit fit y s k && fit k (readingAt y s k))
+  unfolding allFit
+  fit-next k = rw add-one
 
   pub fit-more : (k : ℕ) → allFit fit y s k ≡ true → fit k (readingAt y s k) ≡ true → allFit fit y s (k + 1) ≡ true
   unfolding allFit
@@ -36,6 +40,13 @@ module _ (fit : ℕ → ℕ → Bool) (y : List ℕ) (s : ℕ) where
   unfolding allFit
   fit-all zero h = refl
   fit-all (suc m) h = and-both _ _ (fit-all m (λ i l. h i (omega arith))) (h m (omega arith))
+
+  -- where one does not suit, or one of the first k, not all do
+  pub fit-far : (m i : ℕ) → i < m → fit i (readingAt y s i) ≡ false → allFit fit y s m ≡ false
+  fit-far m i h e = is-false (allFit fit y s m) (λ t. not-both (fit-at m t i h) e)
+
+  pub fit-broken : (m k : ℕ) → k ≤ m → allFit fit y s k ≡ false → allFit fit y s m ≡ false
+  fit-broken m k h e = is-false (allFit fit y s m) (λ t. not-both (fit-all k (λ i l. fit-at m t i (omega arith))) e)
 
 module _ (cost : ℕ → ℕ → ℕ) (y : List ℕ) (s : ℕ) where
   pub sum-none : sumCost cost y s 0 ≡ 0
@@ -91,6 +102,10 @@ module _ (r : Rule) (m gamma : ℕ) (y : List ℕ) (s : ℕ) where
 
   pub by-fit : isPlaceBy r m gamma y s ≡ true → (i : ℕ) → i < m → r .fit i (readingAt y s i) ≡ true
   by-fit e = fit-at (r .fit) y s m (by-parts e .1)
+
+  -- no place begins with a reading that does not suit the first point
+  pub by-first : 1 ≤ m → r .fit 0 (getD y s 0) ≡ false → isPlaceBy r m gamma y s ≡ false
+  by-first h e = is-false (isPlaceBy r m gamma y s) (λ t. not-both (rw add-zero at (by-fit t 0 h)) e)
 
   pub by-within : isPlaceBy r m gamma y s ≡ true → sumCost (r .cost) y s m ≤ gamma
   by-within e = leb-true _ _ (by-parts e .2)

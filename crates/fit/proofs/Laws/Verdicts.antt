@@ -8,12 +8,12 @@ use native.Mathlib.Nat.{not-suc-le-zero, eq-or-lt-of-le, le-of-suc-le-suc}
 use native.Mathlib.Omega.{arith}
 use lib.ListN.{length, getD}
 use lib.Dec.{leb, eqb}
-use borrow.Author.Tests.{eqb-true, eq-eqb, leb-true, leb-false, le-leb, lt-leb}
+use borrow.Author.Tests.{leb-true, leb-false, le-leb, lt-leb}
 use Rattle.fit.specs.Reading.{near}
 use Rattle.fit.specs.Rule.{Rule, readingAt, allFit, sumCost, isPlaceBy, cutAt, SameRule}
 use Rattle.fit.specs.Place.{fitOf, costOf, ruleOf, sumDiff, Place, dOf, gOf}
 use Rattle.fit.specs.Refusal.{orElse}
-use Rattle.fit.specs.Verdict.{Told, farAt, fitsWith, overWith, toldOf, placeSum, brokenAt, BreaksAt, judged, verdictBy, verdictOf}
+use Rattle.fit.specs.Verdict.{Told, farAt, fitsWith, overWith, toldOf, brokenAt, BreaksAt, judged, verdictBy, verdictOf}
 use Rattle.fit.specs.declared.verdict.Verdict.{Verdict}
 use Rattle.fit.specs.declared.verdict.Verdict.the-variants.{Fits, Far, Over}
 use Rattle.fit.proofs.Laws.Bools.{not-both, same-test}
@@ -177,48 +177,6 @@ module _ (r : Rule) (m g : ℕ) (y : List ℕ) (s each : ℕ) where
   unfolding toldOf verdictBy
   tells-over k sum q f h =
       sym (judged-over _ _ g sum .1 (none-far (r .fit) y s m (rw q at (f .fits)), rw (← q, ← f .sums) h, rw (← q) (sym (f .sums))))
-
--- ---- whether the window is a place: the number of the case says it
-judged-one : (far sum g : ℕ) → judged far sum g .kind ≡ 1 → judged far sum g ≡ fitsWith sum
-unfolding judged
-judged-one zero sum g e = by-sum (leb sum g) e
-  where
-    by-sum : (b : Bool) → cond b (fitsWith sum) (overWith sum) .kind ≡ 1 → cond b (fitsWith sum) (overWith sum) ≡ fitsWith sum
-    by-sum true e = refl
-    by-sum false e = absurd (omega (arith, e))
-judged-one (suc far) sum g e = absurd (omega (arith, e))
-
-one-fits : (r : Rule) (m g : ℕ) (y : List ℕ) (s : ℕ) → verdictBy r m g y s .kind ≡ 1 → verdictBy r m g y s ≡ fitsWith (sumCost (r .cost) y s m)
-unfolding verdictBy
-one-fits r m g y s e = judged-one (brokenAt (r .fit) y s m) (sumCost (r .cost) y s m) g e
-
-place-told : (r : Rule) (m g : ℕ) (y : List ℕ) (s : ℕ) → s + m ≤ length y → eqb (verdictBy r m g y s .kind) 1 ≡ isPlaceBy r m g y s
-place-told r m g y s inside =
-    same-test _ _ (λ t. fits-exactly r m g y s inside (sumCost (r .cost) y s m) .0 (one-fits r m g y s (eqb-true _ 1 t)) .0)
-    (λ e. eq-eqb _ 1 (ap (λ (k : Told). k .kind) (fits-exactly r m g y s inside (sumCost (r .cost) y s m) .1 (e, refl))))
-
--- ---- the sum that is told of a place
-judged-within : (far sum g : ℕ) → placeSum (judged far sum g) ≤ g
-unfolding judged placeSum
-judged-within zero sum g = by-sum (leb sum g) refl
-  where
-    by-sum : (b : Bool) → leb sum g ≡ b → cond (eqb (cond b (fitsWith sum) (overWith sum) .kind) 1) (cond b (fitsWith sum) (overWith sum) .sum) 0 ≤ g
-    by-sum true e = leb-true sum g e
-    by-sum false e = omega arith
-judged-within (suc far) sum g = omega arith
-
--- what is read from the check's answer t
-module _ (r : Rule) (m g : ℕ) (y : List ℕ) (s : ℕ) where
-  pub told-place : {t : Told} → t ≡ verdictBy r m g y s → s + m ≤ length y → eqb (t .kind) 1 ≡ isPlaceBy r m g y s
-  told-place q inside = rw q (place-told r m g y s inside)
-
-  pub told-within : {t : Told} → t ≡ verdictBy r m g y s → placeSum t ≤ g
-  unfolding verdictBy
-  told-within q = rw q (judged-within (brokenAt (r .fit) y s m) (sumCost (r .cost) y s m) g)
-
-  pub told-sum : {t : Told} → t ≡ verdictBy r m g y s → s + m ≤ length y → isPlaceBy r m g y s ≡ true → placeSum t ≡ sumCost (r .cost) y s m
-  unfolding placeSum
-  told-sum q inside e = rw (q, fits-exactly r m g y s inside (sumCost (r .cost) y s m) .1 (e, refl))
 
 -- ---- whether a point is far, and the sum that is told where none is
 judged-near : (far sum g : ℕ) → far ≡ 0 → (eqb (judged far sum g .kind) 0 ≡ false) × (judged far sum g .sum ≡ sum)

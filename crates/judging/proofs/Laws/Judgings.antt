@@ -1,5 +1,5 @@
 -- Laws of the question about one window: when it is refused, what each of its answers says, and that there is no second. Assumes nothing.
-use Prim.Native.Nat.{ℕ, zero, suc, _+_, _*_, _≤_, _<_}
+use Prim.Native.Nat.{ℕ, zero, suc, _+_, _≤_, _<_}
 use mathlib.Core.Path.{_≡_, refl, sym, ap, ap₂, _∙_}
 use mathlib.Core.Bool.{true, false, _||_}
 use mathlib.Core.Logic.{_⊎_, inl, inr, ⊎-elim, _↔_, Iff·trans, Iff·and}
@@ -15,18 +15,18 @@ use Rattle.fit.specs.Listing.{places}
 use Rattle.fit.specs.Chain.{FirstInOrder}
 use Rattle.fit.specs.Refusal.{orElse, maxPoints, searchReasons, searchRefusal, Accepted}
 use Rattle.fit.specs.Spans.{ruleIn, spansOf}
-use Rattle.fit.specs.Made.{pointsOf, searchChecked}
+use Rattle.limits.specs.Made.{pointsOf, searchChecked}
 use Rattle.fit.specs.Verdict.{Told, farAt, fitsWith, overWith, toldOf, BreaksAt, verdictBy, verdictOf}
-use Rattle.fit.specs.declared.limits.Checked.{Checked}
+use Rattle.limits.specs.declared.Checked.{Checked}
 use Rattle.fit.specs.declared.verdict.Verdict.{Verdict}
 use Rattle.fit.specs.declared.verdict.Verdict.the-variants.{Fits, Far, Over}
 use Rattle.fit.proofs.Laws.Bools.{is-false, not-both, or-cases, at-most}
 use Rattle.fit.proofs.Laws.Chains.{has, behind, ahead, first-exactly, zero-exactly, in-order, joined, none-both, one-spared}
 use Rattle.fit.proofs.Laws.Refusals.{search-spared}
-use Rattle.fit.proofs.Laws.Constructed.{Carries, search-carries, told-spans}
+use Rattle.limits.proofs.Laws.Constructed.{Carries, search-carries, told-spans}
 use Rattle.fit.proofs.Laws.Places.{place-in}
 use Rattle.fit.proofs.Laws.Verdicts.{told-only, told-fits, told-far, told-over, fits-place, far-first, over-sum}
-use Rattle.fit.proofs.Laws.Compiled.{compiled-long, compiled-verdict}
+use Rattle.fit.proofs.Laws.Compiled.{compiled-verdict}
 use Rattle.judging.specs.declared.Judged.{Judged}
 use Rattle.judging.specs.declared.FlatVerdict.{FlatVerdict}
 use Rattle.judging.specs.Judging.{noWindow, ofWindow, checkReasons, checkRefusal, toldAll, checkAnswer}
@@ -111,8 +111,8 @@ module _ {delta gamma : ℕ} {x y : List ℕ} {s : ℕ} {q : Checked} (p : Check
   own : spans ≡ spansOf (dOf delta gamma) x
   own = told-spans delta gamma x (p .carries) small made
 
-  pub check-ready : (length x ≤ maxPoints) × (4 * length x ≤ length spans) × (s + length x ≤ length y)
-  check-ready = (p .known .ok .asked .few, compiled-long (dOf delta gamma) x spans own (p .known .ok .asked .few), p .known .inside)
+  pub check-ready : (length x ≤ maxPoints) × (s + length x ≤ length y)
+  check-ready = (p .known .ok .asked .few, p .known .inside)
 
   pub check-told : (v : Verdict) → toldOf v ≡ verdictBy (ruleIn spans) (length x) gamma y s → toldOf v ≡ verdictOf delta gamma x y s
   check-told v t = t ∙ compiled-verdict delta gamma x spans own (p .known .ok .asked .few) y s

@@ -1,6 +1,6 @@
 -- `check` meets its contract: refused, or what the window check answers over the profile's spans. Assumes nothing.
 use mathlib.Core.Path.{_≡_}
-use Rattle.fit.proofs.Laws.Openings.{may-compile}
+use Rattle.limits.proofs.Laws.Openings.{may-compile}
 use Rattle.judging.specs.Judging.{checkRefusal}
 use Rattle.judging.proofs.Laws.Judgings.{check-number, CheckPosed, check-posed, check-ready, check-told, check-refused, check-granted}
 use borrow.Author.Needs.{needs}
@@ -42,9 +42,6 @@ d-requires c κs = search needs
 spans-of-requires : tie.Need-spans-of-requires
 spans-of-requires c κs = let at = known (c .before .before) in may-compile _ _ _ (at .known .ok .asked) (at .carries) (c .d .ensures)
 
-slice-aggregate-check-at : tie.Need-slice-aggregate-check-at
-slice-aggregate-check-at c = search needs
-
 check-at-requires : tie.Need-check-at-requires
 check-at-requires c κs =
     let made = c .before in
@@ -69,6 +66,5 @@ check-spec =
     returns
     d-requires
     spans-of-requires
-    slice-aggregate-check-at
     check-at-requires
     returns-2)

@@ -1,18 +1,17 @@
 -- `ordinary::spans_of` meets its contract: after i points the spans of the first i of them are laid. Assumes nothing.
 use mathlib.Core.Path.{_≡_, _∙_}
-use Prim.Native.Nat.{_≤_, _-_, _*_}
+use Prim.Native.Nat.{_≤_, _-_}
 use native.Mathlib.Omega.{arith}
-use lib.ListN.{length, take, replicate}
+use lib.ListN.{length, take}
 use borrow.Author.Needs.{needs}
-use Rattle.fit.specs.Listing.{overlay}
+use Rattle.fit.proofs.Laws.Compiled.{spans-none, rows-next}
 use Rattle.fit.specs.Refusal.{maxPoints, maxDelta}
-use Rattle.fit.specs.Spans.{spansFor}
-use Rattle.fit.proofs.Laws.Compiled.{spans-none, spans-next}
+use Rattle.fit.specs.Spans.{spansOf}
 use Rattle.ordinary.proofs.spans_of.Statement.{statement}
 use Rattle.ordinary.proofs.spans_of.Tie as tie
 
 abbrev Inv-loop : tie.InvT-loop
-Inv-loop d points m reach spans₀ i₀ spans i = (i ≤ m) × (m ≤ maxPoints) × (d ≤ maxDelta) × (length points ≡ maxPoints) × (spans ≡ overlay (spansFor d (take i points)) (replicate (4 * maxPoints) 0))
+Inv-loop d points m reach spans₀ i₀ spans i = (i ≤ m) × (m ≤ maxPoints) × (d ≤ maxDelta) × (length points ≡ maxPoints) × (spans ≡ spansOf d (take i points))
 
 abbrev μ-loop : tie.MeasureT-loop
 μ-loop d points m reach spans₀ i₀ spans i = m - i
@@ -27,7 +26,7 @@ cast-reach : tie.Need-cast-reach Inv-loop μ-loop
 cast-reach c = omega arith
 
 loop-holds : tie.Need-loop-holds Inv-loop μ-loop
-loop-holds c = (omega arith, omega arith, omega arith, search needs, spans-none _ (c .before .points .result) _)
+loop-holds c = (omega arith, omega arith, omega arith, search needs, spans-none (c .before .before .args .d) (c .before .points .result))
 
 array-read-wide : tie.Need-array-read-wide Inv-loop μ-loop
 array-read-wide c = omega arith
@@ -47,47 +46,35 @@ wide-requires-2 c κs = search needs
 mul-spans : tie.Need-mul-spans Inv-loop μ-loop
 mul-spans c = omega arith
 
-mul-spans-2 : tie.Need-mul-spans-2 Inv-loop μ-loop
-mul-spans-2 c = omega arith
-
 array-write-spans : tie.Need-array-write-spans Inv-loop μ-loop
 array-write-spans c = omega arith
 
 add-spans : tie.Need-add-spans Inv-loop μ-loop
 add-spans c = omega arith
 
-mul-spans-3 : tie.Need-mul-spans-3 Inv-loop μ-loop
-mul-spans-3 c = omega arith
-
 add-spans-2 : tie.Need-add-spans-2 Inv-loop μ-loop
 add-spans-2 c = omega arith
 
-mul-spans-4 : tie.Need-mul-spans-4 Inv-loop μ-loop
-mul-spans-4 c = omega arith
+mul-spans-2 : tie.Need-mul-spans-2 Inv-loop μ-loop
+mul-spans-2 c = omega arith
 
 array-write-spans-2 : tie.Need-array-write-spans-2 Inv-loop μ-loop
 array-write-spans-2 c = omega arith
 
-mul-spans-5 : tie.Need-mul-spans-5 Inv-loop μ-loop
-mul-spans-5 c = omega arith
-
 add-spans-3 : tie.Need-add-spans-3 Inv-loop μ-loop
 add-spans-3 c = omega arith
 
-mul-spans-6 : tie.Need-mul-spans-6 Inv-loop μ-loop
-mul-spans-6 c = omega arith
+mul-spans-3 : tie.Need-mul-spans-3 Inv-loop μ-loop
+mul-spans-3 c = omega arith
 
 array-write-spans-3 : tie.Need-array-write-spans-3 Inv-loop μ-loop
 array-write-spans-3 c = omega arith
 
-mul-spans-7 : tie.Need-mul-spans-7 Inv-loop μ-loop
-mul-spans-7 c = omega arith
-
 add-spans-4 : tie.Need-add-spans-4 Inv-loop μ-loop
 add-spans-4 c = omega arith
 
-mul-spans-8 : tie.Need-mul-spans-8 Inv-loop μ-loop
-mul-spans-8 c = omega arith
+mul-spans-4 : tie.Need-mul-spans-4 Inv-loop μ-loop
+mul-spans-4 c = omega arith
 
 array-write-spans-4 : tie.Need-array-write-spans-4 Inv-loop μ-loop
 array-write-spans-4 c = omega arith
@@ -100,12 +87,13 @@ loop-less c = omega arith
 
 loop-again : tie.Need-loop-again Inv-loop μ-loop
 loop-again c =
-    let at-loop = c .before .before .before .before in (
+    let at-loop = c .before .before .before .before in
+    let own = c .before .before .wide .ensures .0 in (
       omega arith,
       omega arith,
       omega arith,
       at-loop .loop .inv .3,
-      spans-next _ _ _ _ _ _ _ (omega arith) (at-loop .loop .inv .4) (c .before .before .wide .ensures .0) (c .wide2 .ensures .0 ∙ c .before .least-near .ensures),
+      rows-next _ _ _ _ 0 _ _ _ _ _ _ _ (omega arith) (omega arith) (at-loop .loop .inv .4) (c .wide2 .ensures .0 ∙ c .before .least-near .ensures) (omega (arith, own)) own own,
     )
 
 returns : tie.Need-returns Inv-loop μ-loop
@@ -130,20 +118,16 @@ spans-of-spec =
     least-near-requires
     wide-requires-2
     mul-spans
-    mul-spans-2
     array-write-spans
     add-spans
-    mul-spans-3
     add-spans-2
-    mul-spans-4
+    mul-spans-2
     array-write-spans-2
-    mul-spans-5
     add-spans-3
-    mul-spans-6
+    mul-spans-3
     array-write-spans-3
-    mul-spans-7
     add-spans-4
-    mul-spans-8
+    mul-spans-4
     array-write-spans-4
     add-i
     loop-less

@@ -1,9 +1,9 @@
 -- `packed::search` meets its contract: refused as it begins, or the scan by the masks and the table that were built, in as many words as needed.
 use mathlib.Core.Path.{refl}
 use native.Mathlib.Omega.{arith}
-use Rattle.fit.proofs.Laws.Answers.{refused, begins}
-use Rattle.fit.proofs.Laws.Constructed.{told-d, told-g}
-use Rattle.fit.proofs.Laws.Openings.{Underway, underway}
+use Rattle.fit.proofs.Laws.Answers.{refused}
+use Rattle.limits.proofs.Laws.Constructed.{told-d, told-g}
+use Rattle.limits.proofs.Laws.Openings.{Underway, begins, underway}
 use Rattle.packed.proofs.Laws.Answering.{Open, opened, may-lay-out, few-words, may-add, may-scan, answered}
 use borrow.Author.Needs.{needs}
 use Rattle.packed.proofs.search.Statement.{statement}

@@ -15,7 +15,7 @@ use Rattle.plain.proofs.one_by_one.Tie as tie
 
 abbrev Inv-loop : tie.InvT-loop
 Inv-loop spans m gamma recording list₀ sums₀ from count found₀ s₀ list sums found s =
-    Ready spans m gamma (length recording) × (count ≡ windows m (length recording)) × (s ≤ count)
+    Ready m gamma (length recording) × (count ≡ windows m (length recording)) × (s ≤ count)
     × Trying (soughtBy (ruleIn spans) m gamma recording) (run from (windows m (length recording) - from)) (run s (count - s)) s (lent list₀ sums₀) (lent list sums)
     found₀ found
 
@@ -27,7 +27,7 @@ count-windows-requires c κs = search needs
 
 loop-holds : tie.Need-loop-holds Inv-loop μ-loop
 loop-holds c =
-    let known = c .before .before .before .before .before .pre in
+    let known = c .before .before .before .before .pre in
     let counted = c .count-windows .ensures in
     (known .0 .0, counted, omega (arith, counted), running-start _ _ _ _ _ refl (omega (arith, counted)) (known .1 .0) (known .1 .1))
 

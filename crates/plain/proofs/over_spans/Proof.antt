@@ -16,7 +16,7 @@ use Rattle.plain.proofs.over_spans.Tie as tie
 
 abbrev Inv-loop : tie.InvT-loop
 Inv-loop spans m gamma recording list₀ sums₀ count found₀ s₀ list sums found s =
-    Ready spans m gamma (length recording) × (count ≡ windows m (length recording)) × (s ≤ count) × (found₀ ≡ begun 0)
+    Ready m gamma (length recording) × (count ≡ windows m (length recording)) × (s ≤ count) × (found₀ ≡ begun 0)
     × Trying (soughtBy (ruleIn spans) m gamma recording) (run 0 (windows m (length recording))) (run s (windows m (length recording) - s)) s (lent list₀ sums₀)
     (lent list sums) found₀ found
 
@@ -28,7 +28,7 @@ count-windows-requires c κs = search needs
 
 loop-holds : tie.Need-loop-holds Inv-loop μ-loop
 loop-holds c =
-    let known = c .before .before .before .before .before .pre in
+    let known = c .before .before .before .before .pre in
     (known .0, c .count-windows .ensures, omega arith, known .1, running-begun _ _ (known .1))
 
 add-loop : tie.Need-add-loop Inv-loop μ-loop

@@ -1,18 +1,17 @@
 -- What a question answers of its checked input: refused by its number, or the jump that its rule has. One law each, for every question.
 -- Assumes nothing.
-use Prim.Native.Nat.{ℕ, zero, suc, _*_, _≤_}
+use Prim.Native.Nat.{ℕ, zero, suc}
 use mathlib.Core.Path.{_≡_, refl, sym, ap, ap₂, _∙_}
 use mathlib.Core.List.{List}
 use lib.ListN.{length, replicate}
 use Rattle.fit.specs.Place.{dOf}
 use Rattle.fit.specs.Spans.{spansOf}
 use Rattle.fit.specs.Refusal.{orElse, questionRefusal, Asked}
-use Rattle.fit.specs.Made.{pointsOf, questionChecked}
-use Rattle.fit.specs.declared.limits.Checked.{Checked}
-use Rattle.fit.proofs.Laws.Constructed.{Carries, question-carries, told-d, told-spans}
+use Rattle.limits.specs.Made.{pointsOf, questionChecked}
+use Rattle.limits.specs.declared.Checked.{Checked}
+use Rattle.limits.proofs.Laws.Constructed.{Carries, question-carries, told-d, told-spans}
 use Rattle.fit.proofs.Laws.Refusals.{asked-accepted}
-use Rattle.fit.proofs.Laws.Openings.{Posed, posed}
-use Rattle.fit.proofs.Laws.Compiled.{compiled-long}
+use Rattle.limits.proofs.Laws.Openings.{Posed, posed}
 use Rattle.tables.specs.Holding.{Usable}
 use Rattle.tables.proofs.Laws.Holdings.{usable}
 use Rattle.questions.specs.declared.Jump.{Jump}
@@ -49,7 +48,6 @@ compiled-spans num spans z = rw z
 pub record Spanned (delta gamma : ℕ) (x spans : List ℕ) : Type 0 where
   pub ok : Asked delta gamma x
   pub made : spans ≡ spansOf (dOf delta gamma) x
-  pub long : 4 * length x ≤ length spans
 
 module _ (delta gamma : ℕ) (x : List ℕ) {c : Compiled} (e : c ≡ compiledAnswer (questionRefusal delta gamma x) (spansOf (dOf delta gamma) x)) where
   told-number : c .refusal ≡ questionRefusal delta gamma x
@@ -64,7 +62,7 @@ module _ (delta gamma : ℕ) (x : List ℕ) {c : Compiled} (e : c ≡ compiledAn
         let none = sym told-number ∙ z in
         let ok = asked-accepted delta gamma x none in
         let made = ap (λ (k : Compiled). k .spans) e ∙ compiled-spans _ _ none in
-        record { ok = ok; made = made; long = compiled-long (dOf delta gamma) x (c .spans) made (ok .few) }
+        record { ok = ok; made = made }
 
     pub reading-granted : (j k : ℕ) → (Spanned delta gamma x (c .spans) → j ≡ k) → _≡_ {A = Jump} (record { refusal = 0; jump = j }) (jumpAnswer (questionRefusal delta gamma x) k)
     reading-granted j k f = granted _ _ j k told-number z (f spanned)

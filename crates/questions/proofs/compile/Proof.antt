@@ -1,5 +1,5 @@
 -- `compile` meets its contract: refused, or the spans of the profile by the smaller tolerance. Assumes nothing.
-use Rattle.fit.proofs.Laws.Openings.{posed, may-compile}
+use Rattle.limits.proofs.Laws.Openings.{posed, may-compile}
 use Rattle.questions.proofs.Laws.Replies.{compiled-none, compiled-made}
 use borrow.Author.Needs.{needs}
 use Rattle.questions.proofs.compile.Statement.{statement}

@@ -1,6 +1,6 @@
 -- `full` meets its contract: refused, or the jump by the smaller tolerance. Assumes nothing.
 use mathlib.Core.Path.{ap, _∙_}
-use Rattle.fit.proofs.Laws.Constructed.{told-d}
+use Rattle.limits.proofs.Laws.Constructed.{told-d}
 use Rattle.jumps.specs.Jumps.{fullJump}
 use Rattle.questions.proofs.Laws.Replies.{question-refused, question-granted, question-usable}
 use borrow.Author.Needs.{needs}

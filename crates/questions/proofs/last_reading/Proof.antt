@@ -16,11 +16,11 @@ returns : tie.Need-returns
 returns c = reading-refused _ _ _ (c .before .before .compile .ensures) _ (c .before .if1 .taken) (c .refused .ensures)
 
 last-jump-requires : tie.Need-last-jump-requires
-last-jump-requires c κs = let at = spanned _ _ _ (c .before .before .before .before .compile .ensures) (c .before .before .before .if1 .left) in at .long
+last-jump-requires c κs = let at = spanned _ _ _ (c .before .before .before .compile .ensures) (c .before .before .if1 .left) in at .ok .few
 
 returns-2 : tie.Need-returns-2
 returns-2 c =
-    reading-granted _ _ _ (c .before .before .before .before .before .compile .ensures) (c .before .before .before .before .if1 .left) _ _ (λ at.
+    reading-granted _ _ _ (c .before .before .before .before .compile .ensures) (c .before .before .before .if1 .left) _ _ (λ at.
     c .last-jump .ensures .0 ∙ last-over-spans _ _ _ _ (at .made) (at .ok) _)
 
 pub last-reading-spec : {M : Type 1} → statement M

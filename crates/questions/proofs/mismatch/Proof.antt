@@ -2,7 +2,7 @@
 use Prim.Native.Nat.{_-_}
 use mathlib.Core.Path.{_≡_, ap, _∙_}
 use native.Mathlib.Omega.{arith}
-use Rattle.fit.proofs.Laws.Constructed.{told-d}
+use Rattle.limits.proofs.Laws.Constructed.{told-d}
 use Rattle.jumps.specs.Jumps.{mismatchJump}
 use Rattle.tables.proofs.Laws.Holdings.{usable}
 use Rattle.questions.specs.Asking.{mismatchRefusal}

@@ -16,11 +16,11 @@ returns : tie.Need-returns
 returns c = reading-refused _ _ _ (c .before .before .compile .ensures) _ (c .before .if1 .taken) (c .refused .ensures)
 
 next-jump-requires : tie.Need-next-jump-requires
-next-jump-requires c κs = let at = spanned _ _ _ (c .before .before .before .before .compile .ensures) (c .before .before .before .if1 .left) in (at .long, at .ok .few)
+next-jump-requires c κs = let at = spanned _ _ _ (c .before .before .before .compile .ensures) (c .before .before .if1 .left) in at .ok .few
 
 returns-2 : tie.Need-returns-2
 returns-2 c =
-    reading-granted _ _ _ (c .before .before .before .before .before .compile .ensures) (c .before .before .before .before .if1 .left) _ _ (λ at.
+    reading-granted _ _ _ (c .before .before .before .before .compile .ensures) (c .before .before .before .if1 .left) _ _ (λ at.
     c .next-jump .ensures .0 ∙ next-over-spans _ _ _ _ (at .made) (at .ok) _)
 
 pub next-reading-spec : {M : Type 1} → statement M

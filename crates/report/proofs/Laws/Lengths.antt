@@ -15,7 +15,7 @@ use Rattle.fit.proofs.Laws.Refusals.{none-exactly, search-small}
 use Rattle.fit.proofs.Laws.Steps.{walk-short}
 use Rattle.last.proofs.Laws.Ordinary.{last-short}
 use Rattle.skip.proofs.Laws.Walks.{skip-short}
-use Rattle.maximal.specs.Walk.{maximalNext}
+use Rattle.leaping.specs.Walk.{maximalNext}
 use Rattle.input.specs.Inputs.{deltaIn, gammaIn, maxInput, ofInput, pointsIn, recordingIn}
 use Rattle.input.proofs.Laws.Parses.{input-small, recording-short}
 use Rattle.page.specs.Put.{Put}

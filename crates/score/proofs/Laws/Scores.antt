@@ -1,23 +1,20 @@
--- Laws of scores: the score of a whole window says whether it is a place, and of a place the sum. Assumes nothing.
-use mathlib.Core.Path.{_≡_, refl, ap, _∙_}
-use mathlib.Core.Bool.{Bool, true, false, cond, _&&_}
-use mathlib.Core.Logic.{⊎-elim}
+-- Laws of scores in the making. Assumes nothing.
+use mathlib.Core.Path.{_≡_, ap, _∙_}
+use mathlib.Core.Bool.{Bool, true, false, cond}
 use mathlib.Core.List.{List}
 use Prim.Native.Nat.{ℕ, _+_, _≤_, min}
 use native.Mathlib.Omega.{arith}
-use lib.ListN.{length, getD}
-use lib.Dec.{leb, eqb}
-use borrow.Author.Tests.{le-leb, lt-leb, leb-true}
-use Rattle.fit.specs.Rule.{Rule, readingAt, allFit, sumCost, isPlaceBy}
+use lib.ListN.{getD}
+use lib.Dec.{eqb}
+use Rattle.fit.specs.Rule.{Rule, readingAt, allFit, sumCost}
 use Rattle.fit.specs.Verdict.{verdictBy}
 use Rattle.fit.specs.Listing.{Entries}
-use Rattle.fit.specs.Refusal.{maxGamma}
-use Rattle.fit.proofs.Laws.Bools.{either, same-test}
-use Rattle.fit.proofs.Laws.Rules.{sum-none, sum-more, by-within}
-use Rattle.fit.proofs.Laws.Verdicts.{fits-exactly, told-near, told-broken}
+use Rattle.fit.proofs.Laws.Rules.{sum-none, sum-more}
 use Rattle.fit.proofs.Laws.Entries.{entries-as}
 use Rattle.sieve.specs.Sieve.{mark}
-use Rattle.score.specs.Score.{mostScore, scoreIn, Scored, scoreAfter}
+use Rattle.spans.specs.Score.{mostScore, scoreIn}
+use Rattle.spans.proofs.Laws.Scores.{score-told}
+use Rattle.score.specs.Score.{Scored, scoreAfter}
 
 -- ---- one window
 -- before its first point, by its mark
@@ -37,34 +34,6 @@ pub added-score : (r : Rule) (m : ℕ) (y : List ℕ) (s k old v : ℕ) → old 
     → v ≡ scoreAfter r m y (k + 1) s
 added-score r m y s k old v e q =
     rw (sum-more (r .cost) y s k) (rw e at q ∙ added-by (allFit (r .fit) y s m) (sumCost (r .cost) y s k) (r .cost k (readingAt y s k)))
-
--- the whole score is what the check's answer says
-pub score-told : (r : Rule) (m gamma : ℕ) (y : List ℕ) (s : ℕ) → scoreAfter r m y m s ≡ scoreIn (verdictBy r m gamma y s)
-unfolding scoreIn
-score-told r m gamma y s =
-    ⊎-elim (λ (e : allFit (r .fit) y s m ≡ true). let told = told-near r m gamma y s e in rw (e, told .0, told .1))
-    (λ (e : allFit (r .fit) y s m ≡ false). let told = told-broken r m gamma y s e in rw (e, told)) (either (allFit (r .fit) y s m))
-
-cut-off : (b : Bool) (sum gamma : ℕ) → gamma ≤ maxGamma → leb (cond b (min sum mostScore) mostScore) gamma ≡ (b && leb sum gamma)
-cut-off true sum gamma h =
-    same-test (leb (min sum mostScore) gamma) (leb sum gamma)
-    (λ e. le-leb sum gamma (omega (arith, leb-true (min sum mostScore) gamma e)))
-    (λ e. le-leb (min sum mostScore) gamma (omega (arith, leb-true sum gamma e)))
-cut-off false sum gamma h = lt-leb mostScore gamma (omega arith)
-
--- it is at most gamma exactly where the window is a place
-pub score-place : (r : Rule) (m gamma : ℕ) (y : List ℕ) (s : ℕ) → s + m ≤ length y → gamma ≤ maxGamma → leb (scoreIn (verdictBy r m gamma y s)) gamma ≡ isPlaceBy r m gamma y s
-unfolding isPlaceBy
-score-place r m gamma y s inside h =
-    rw (le-leb (s + m) (length y) inside, ← score-told r m gamma y s) (cut-off (allFit (r .fit) y s m) (sumCost (r .cost) y s m) gamma h)
-
--- and of a place it is the sum
-pub score-sum : (r : Rule) (m gamma : ℕ) (y : List ℕ) (s : ℕ) → s + m ≤ length y → gamma ≤ maxGamma → isPlaceBy r m gamma y s ≡ true
-    → scoreIn (verdictBy r m gamma y s) ≡ sumCost (r .cost) y s m
-unfolding scoreIn
-score-sum r m gamma y s inside h e =
-    let small = by-within r m gamma y s e in
-    rw (fits-exactly r m gamma y s inside (sumCost (r .cost) y s m) .1 (e, refl)) (omega arith)
 
 -- ---- 64 windows: before their first point, and after their last
 pub scores-begun : (r : Rule) (m : ℕ) (y : List ℕ) (s : ℕ) {marks scores : List ℕ} → Entries (λ j. mark (allFit (r .fit) y (s + j) m)) 64 marks

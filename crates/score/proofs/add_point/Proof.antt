@@ -1,8 +1,9 @@
 -- `score::add_point` meets its contract: the windows before j have point i in their scores. Assumes nothing.
-use Prim.Native.Nat.{_+_, _-_, _*_, _<_}
+use Prim.Native.Nat.{_+_, _-_, _<_}
 use native.Mathlib.Omega.{arith}
 use lib.ListN.{length}
 use borrow.Author.Needs.{needs}
+use Rattle.fit.specs.Refusal.{maxPoints}
 use Rattle.fit.specs.Spans.{ruleIn}
 use Rattle.fit.proofs.Laws.Entries.{Rewritten, rewritten-none, rewritten-next, rewritten-all}
 use Rattle.score.specs.Score.{scoreAfter}
@@ -12,39 +13,33 @@ use Rattle.score.proofs.add_point.Tie as tie
 
 abbrev Inv-loop : tie.InvT-loop
 Inv-loop scores₀ spans m recording s i from to j₀ scores j =
-    (4 * i + 3 < length spans) × (s + 63 + i < length recording)
+    (i < maxPoints) × (s + 63 + i < length recording)
     × Rewritten (λ k. scoreAfter (ruleIn spans) m recording i (s + k)) (λ k. scoreAfter (ruleIn spans) m recording (i + 1) (s + k)) 64 scores j
 
 abbrev μ-loop : tie.MeasureT-loop
 μ-loop scores₀ spans m recording s i from to j₀ scores j = 64 - j
 
-mul-from : tie.Need-mul-from Inv-loop μ-loop
-mul-from c = omega arith
-
 add-from : tie.Need-add-from Inv-loop μ-loop
 add-from c = omega arith
 
-mul-from-2 : tie.Need-mul-from-2 Inv-loop μ-loop
-mul-from-2 c = omega arith
+mul-from : tie.Need-mul-from Inv-loop μ-loop
+mul-from c = omega arith
 
-shared-slice-read-from : tie.Need-shared-slice-read-from Inv-loop μ-loop
-shared-slice-read-from c = omega arith
-
-mul-to : tie.Need-mul-to Inv-loop μ-loop
-mul-to c = omega arith
+element-copy-out-from : tie.Need-element-copy-out-from Inv-loop μ-loop
+element-copy-out-from c = omega arith
 
 add-to : tie.Need-add-to Inv-loop μ-loop
 add-to c = omega arith
 
-mul-to-2 : tie.Need-mul-to-2 Inv-loop μ-loop
-mul-to-2 c = omega arith
+mul-to : tie.Need-mul-to Inv-loop μ-loop
+mul-to c = omega arith
 
-shared-slice-read-to : tie.Need-shared-slice-read-to Inv-loop μ-loop
-shared-slice-read-to c = omega arith
+element-copy-out-to : tie.Need-element-copy-out-to Inv-loop μ-loop
+element-copy-out-to c = omega arith
 
 loop-holds : tie.Need-loop-holds Inv-loop μ-loop
 loop-holds c =
-    let known = c .before .before .before .before .pre in
+    let known = c .before .before .before .pre in
     (known .0 .0, known .0 .1, rewritten-none _ _ _ (known .1))
 
 mul-added : tie.Need-mul-added Inv-loop μ-loop
@@ -93,14 +88,12 @@ add-point-spec =
     (tie.spec
     Inv-loop
     μ-loop
-    mul-from
     add-from
-    mul-from-2
-    shared-slice-read-from
-    mul-to
+    mul-from
+    element-copy-out-from
     add-to
-    mul-to-2
-    shared-slice-read-to
+    mul-to
+    element-copy-out-to
     loop-holds
     mul-added
     element-copy-out-added

@@ -7,7 +7,7 @@ use lib.ListN.{length, getD}
 use lib.Dec.{eqb}
 use borrow.Author.Needs.{needs}
 use Rattle.fit.proofs.Laws.Entries.{entries-same, Rewritten, rewritten-none, rewritten-next, rewritten-all}
-use Rattle.score.specs.Score.{mostScore}
+use Rattle.spans.specs.Score.{mostScore}
 use Rattle.score.proofs.begun_all.Statement.{statement}
 use Rattle.score.proofs.begun_all.Tie as tie
 

@@ -1,8 +1,9 @@
 -- `score::scores` meets its contract: the scores after i points, point by point. Assumes nothing.
-use Prim.Native.Nat.{_+_, _-_, _*_, _≤_}
+use Prim.Native.Nat.{_+_, _-_, _≤_}
 use native.Mathlib.Omega.{arith}
 use lib.ListN.{length}
 use Rattle.fit.specs.Listing.{Entries}
+use Rattle.fit.specs.Refusal.{maxPoints}
 use Rattle.fit.specs.Spans.{ruleIn}
 use Rattle.score.specs.Score.{scoreAfter}
 use Rattle.score.proofs.Laws.Scores.{scores-begun, scores-all}
@@ -11,17 +12,17 @@ use Rattle.score.proofs.scores.Tie as tie
 
 abbrev Inv-loop : tie.InvT-loop
 Inv-loop spans m recording s marks scores₀ i₀ scores i =
-    (i ≤ m) × (4 * m ≤ length spans) × (s + 63 + m ≤ length recording) × Entries (λ j. scoreAfter (ruleIn spans) m recording i (s + j)) 64 scores
+    (i ≤ m) × (m ≤ maxPoints) × (s + 63 + m ≤ length recording) × Entries (λ j. scoreAfter (ruleIn spans) m recording i (s + j)) 64 scores
 
 abbrev μ-loop : tie.MeasureT-loop
 μ-loop spans m recording s marks scores₀ i₀ scores i = m - i
 
 begun-all-requires : tie.Need-begun-all-requires Inv-loop μ-loop
-begun-all-requires c κs = c .before .before .pre .1 .long
+begun-all-requires c κs = c .before .pre .1 .long
 
 loop-holds : tie.Need-loop-holds Inv-loop μ-loop
 loop-holds c =
-    let known = c .before .before .before .pre in
+    let known = c .before .before .pre in
     (omega arith, known .0 .0, known .0 .1, scores-begun _ _ _ _ (known .1) (c .begun-all .ensures))
 
 add-point-requires : tie.Need-add-point-requires Inv-loop μ-loop

@@ -9,6 +9,7 @@ use native.Mathlib.Numerals.{add-one}
 use native.Mathlib.Omega.{arith}
 use lib.ListN.{getD, set, replicate}
 use lib.Dec.{leb}
+use Rattle.fit.specs.Refusal.{maxPoints}
 use Rattle.fit.specs.Rule.{Rule, readingAt, allFit, isPlaceBy}
 use Rattle.fit.specs.Listing.{Entries}
 use Rattle.fit.specs.Spans.{spanFits, ruleIn}
@@ -29,15 +30,15 @@ pub record Kept (fits : Bool) (any before after : ℕ) : Type 0 where
   pub fits-is : fits ≡ (there && within)
 
 pub kept-at : (spans : List ℕ) (y : List ℕ) (t i any least more before after : ℕ)
-    → Ranged (getD spans (4 * i) 0) (getD spans (4 * i + 1) 0) any least more
+    → Ranged (getD spans i 0) (getD spans (maxPoints + i) 0) any least more
     → (readingAt y t i ≤ 255) × (least + more ≤ 255 → after ≡ cond (spanFits least (least + more) (readingAt y t i)) before 0)
     → Kept (ruleIn spans .fit i (readingAt y t i)) any before after
 kept-at spans y t i any least more before after r told = record {
-  there = leb (getD spans (4 * i) 0) (min (getD spans (4 * i + 1) 0) 255);
+  there = leb (getD spans i 0) (min (getD spans (maxPoints + i) 0) 255);
   within = spanFits least (least + more) (readingAt y t i);
   any-is = r .some-are;
   after-is = told .1 (omega (arith, r .from-least, r .to-most));
-  fits-is = ranged-fits (getD spans (4 * i) 0) (getD spans (4 * i + 1) 0) any least more (readingAt y t i) r (told .0);
+  fits-is = ranged-fits (getD spans i 0) (getD spans (maxPoints + i) 0) any least more (readingAt y t i) r (told .0);
 }
 
 reorder : (a b c p x y z : Bool) → (((((a && (b && c)) && p) && x) && y) && z) ≡ (p && ((a && x) && ((b && y) && (c && z))))

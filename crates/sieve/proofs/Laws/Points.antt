@@ -1,6 +1,6 @@
--- Laws of one point: the readings that suit it, as a range of bytes, and one comparison. Assumes nothing.
+-- Laws of one point: the readings that suit it, as a range of bytes. Assumes nothing.
 use mathlib.Core.Path.{_≡_, ap}
-use mathlib.Core.Bool.{Bool, cond, _&&_}
+use mathlib.Core.Bool.{Bool, _&&_}
 use mathlib.Core.Logic.{⊎-elim}
 use Prim.Native.Nat.{ℕ, _+_, _-_, _≤_, _<_, min}
 use native.Mathlib.Omega.{arith}
@@ -9,16 +9,6 @@ use borrow.Author.Tests.{leb-true, le-leb, lt-leb}
 use Rattle.fit.specs.Spans.{spanFits}
 use Rattle.fit.proofs.Laws.Bools.{and-left, and-right, is-false, same-test, le-or-lt}
 use Rattle.sieve.specs.Sieve.{mark, Ranged}
-
--- outside of a range: below its least reading, or above its last
-pub out-below : (low high a mark : ℕ) → a < low → 0 ≡ cond (spanFits low high a) mark 0
-out-below low high a mark h = rw (lt-leb low a h)
-
-pub out-above : (low high a mark : ℕ) → low ≤ a → high < a → 0 ≡ cond (spanFits low high a) mark 0
-out-above low high a mark h l = rw (le-leb low a h, lt-leb a high l)
-
-pub inside : (low high a mark : ℕ) → low ≤ a → a ≤ high → mark ≡ cond (spanFits low high a) mark 0
-inside low high a mark h l = rw (le-leb low a h, le-leb a high l)
 
 -- a reading suits a span where the span has readings, and it lies in their range
 pub ranged-fits : (low high any least more a : ℕ) → Ranged low high any least more → a ≤ 255

@@ -1,10 +1,10 @@
 -- `sieve::sift` meets its contract: each window keeps its mark where it suits the three points. Assumes nothing.
-use Prim.Native.Nat.{_+_, _-_, _*_, _/_, _≤_, _<_, min}
+use Prim.Native.Nat.{_+_, _-_, _/_, _≤_, _<_, min}
 use mathlib.Core.Path.{_≡_, ap, _∙_}
 use native.Mathlib.Omega.{arith}
 use lib.ListN.{length, getD}
 use borrow.Author.Needs.{needs}
-use Rattle.fit.specs.Refusal.{maxReadings}
+use Rattle.fit.specs.Refusal.{maxPoints, maxReadings}
 use Rattle.fit.specs.Spans.{ruleIn}
 use Rattle.sieve.specs.Sieve.{passes, Ranged}
 use Rattle.sieve.proofs.Laws.Passes.{Sifting, sifting-start, sifting-next, sifting-end, kept-at, three-kept, passes-more}
@@ -13,10 +13,10 @@ use Rattle.sieve.proofs.sift.Tie as tie
 
 abbrev Inv-loop : tie.InvT-loop
 Inv-loop marks₀ spans m recording s i mid end front middle back any most₀ j₀ marks most j =
-    (i < m) × (mid < m) × (end < m) × (4 * m ≤ length spans) × (s + 63 + m ≤ length recording) × (j ≤ 64) × (length recording ≤ maxReadings)
-    × Ranged (getD spans (4 * i) 0) (getD spans (4 * i + 1) 0) (front .any) (front .least) (front .more)
-    × Ranged (getD spans (4 * mid) 0) (getD spans (4 * mid + 1) 0) (middle .any) (middle .least) (middle .more)
-    × Ranged (getD spans (4 * end) 0) (getD spans (4 * end + 1) 0) (back .any) (back .least) (back .more)
+    (i < m) × (mid < m) × (end < m) × (m ≤ maxPoints) × (s + 63 + m ≤ length recording) × (j ≤ 64) × (length recording ≤ maxReadings)
+    × Ranged (getD spans i 0) (getD spans (maxPoints + i) 0) (front .any) (front .least) (front .more)
+    × Ranged (getD spans mid 0) (getD spans (maxPoints + mid) 0) (middle .any) (middle .least) (middle .more)
+    × Ranged (getD spans end 0) (getD spans (maxPoints + end) 0) (back .any) (back .least) (back .more)
     × (any ≡ min (front .any) (min (middle .any) (back .any)))
     × Sifting (λ k. passes (ruleIn spans .fit) m recording (s + k) i) (λ k. passes (ruleIn spans .fit) m recording (s + k) (i + 1)) marks most j
 
@@ -52,7 +52,7 @@ loop-holds c =
     let third = c .before .before in
     let second = third .before in
     let first = second .before in
-    let known = first .before .before .before .pre in (
+    let known = first .before .before .pre in (
       omega arith,
       omega arith,
       omega arith,
@@ -129,7 +129,7 @@ loop-again c =
     let chosen = first .before .before in
     let at-test = chosen .before .before in
     let inv = at-test .before .loop .inv in
-    let given = at-test .before .before .before .before .before .before .before .before .before .args in
+    let given = at-test .before .before .before .before .before .before .before .before .args in
     let spans = given .spans .now in
     let y = given .recording .now in
     let t = given .s + at-test .before .loop .j in (

@@ -5,7 +5,7 @@ use mathlib.Core.Bool.{true}
 use native.Mathlib.Omega.{arith}
 use lib.ListN.{length}
 use Rattle.fit.specs.Listing.{Entries}
-use Rattle.fit.specs.Refusal.{maxReadings}
+use Rattle.fit.specs.Refusal.{maxPoints, maxReadings}
 use Rattle.fit.specs.Spans.{ruleIn}
 use Rattle.sieve.specs.Sieve.{mark, some, passes}
 use Rattle.sieve.proofs.Laws.Marks.{mark-none, mark-one}
@@ -15,7 +15,7 @@ use Rattle.sieve.proofs.sifted.Tie as tie
 
 abbrev Inv-loop : tie.InvT-loop
 Inv-loop spans m recording s marks₀ i₀ marks i =
-    (3 * i ≤ m + 2) × (4 * m ≤ length spans) × (s + 63 + m ≤ length recording) × (length recording ≤ maxReadings)
+    (3 * i ≤ m + 2) × (m ≤ maxPoints) × (s + 63 + m ≤ length recording) × (length recording ≤ maxReadings)
     × Entries (λ j. mark (passes (ruleIn spans .fit) m recording (s + j) i)) 64 marks
     × (some (λ j. passes (ruleIn spans .fit) m recording (s + j) i) 64 ≡ true)
 
@@ -23,7 +23,7 @@ abbrev μ-loop : tie.MeasureT-loop
 μ-loop spans m recording s marks₀ i₀ marks i = m - i
 
 sift-requires : tie.Need-sift-requires Inv-loop μ-loop
-sift-requires c κs = let known = c .before .before .before .pre in ((omega arith, known .1, known .2, known .3), marked-all _ _ _ _)
+sift-requires c κs = let known = c .before .before .pre in ((omega arith, known .1, known .2, known .3), marked-all _ _ _ _)
 
 returns : tie.Need-returns Inv-loop μ-loop
 returns c =
@@ -33,7 +33,7 @@ returns c =
 
 loop-holds : tie.Need-loop-holds Inv-loop μ-loop
 loop-holds c =
-    let known = c .before .before .before .before .before .pre in
+    let known = c .before .before .before .before .pre in
     let done = c .before .sift .ensures in
     (omega arith, known .1, known .2, known .3, done .0, mark-one _ _ (done .1) (c .if1 .left))
 

@@ -6,7 +6,6 @@ use borrow.Author.Needs.{needs}
 use Rattle.fit.specs.Spans.{ruleIn, Ready}
 use Rattle.fit.specs.Answer.{lent}
 use Rattle.fit.proofs.Laws.Alongs.{along-start, along-same}
-use Rattle.fitted.specs.Costs.{CostTable}
 use Rattle.stops.specs.Passing.{Tables}
 use Rattle.skip.proofs.Laws.Walks.{walk-start, along-probe}
 use Rattle.skip.proofs.Laws.Searching.{Arrived, pass-along, settle-along, walk-answer}
@@ -14,12 +13,12 @@ use Rattle.skip.proofs.over_spans.Statement.{statement}
 use Rattle.skip.proofs.over_spans.Tie as tie
 
 abbrev Inv-loop : tie.InvT-loop
-Inv-loop spans m gamma recording list₀ sums₀ near counts costs found₀ q₀ list sums found q = Ready spans m gamma (length recording) × (m ≤ q + 1) × (q ≤ length recording + m)
-    × Tables m (ruleIn spans .fit) near counts × CostTable m (ruleIn spans .cost) costs
+Inv-loop spans m gamma recording list₀ sums₀ near counts found₀ q₀ list sums found q = Ready m gamma (length recording) × (m ≤ q + 1) × (q ≤ length recording + m)
+    × Tables m (ruleIn spans .fit) near counts
     × Arrived (ruleIn spans) m gamma recording (lent list₀ sums₀) q (lent list sums) found
 
 abbrev μ-loop : tie.MeasureT-loop
-μ-loop spans m gamma recording list₀ sums₀ near counts costs found₀ q₀ list sums found q = length recording - q
+μ-loop spans m gamma recording list₀ sums₀ near counts found₀ q₀ list sums found q = length recording - q
 
 mul-if1 : tie.Need-mul-if1 Inv-loop μ-loop
 mul-if1 c = omega arith
@@ -45,19 +44,15 @@ near-masks-requires c κs = omega arith
 mark-counts-requires : tie.Need-mark-counts-requires Inv-loop μ-loop
 mark-counts-requires c κs = search needs
 
-costs-of-requires : tie.Need-costs-of-requires Inv-loop μ-loop
-costs-of-requires c κs = omega arith
-
 sub-q : tie.Need-sub-q Inv-loop μ-loop
 sub-q c = omega arith
 
 loop-holds : tie.Need-loop-holds Inv-loop μ-loop
-loop-holds c = let known = c .before .before .before .before .before .before .before .before .before .pre in (
+loop-holds c = let known = c .before .before .before .before .before .before .before .pre in (
   known .0,
   omega arith,
   omega arith,
-  record { marks = c .before .before .before .near-masks .ensures; counted = c .before .mark-counts .ensures },
-  c .costs-of .ensures,
+  record { marks = c .before .before .near-masks .ensures; counted = c .mark-counts .ensures },
   along-same (walk-start _ _ _ (omega arith)) (along-start _ _ _ _ (known .1)),
 )
 
@@ -69,42 +64,41 @@ next-stop-requires c κs = omega arith
 
 note-none-requires : tie.Need-note-none-requires Inv-loop μ-loop
 note-none-requires c κs = let inv = c .before .before .before .before .loop .inv in
-    omega (arith, c .next-stop .ensures .1, inv .5 .room)
+    omega (arith, c .next-stop .ensures .1, inv .4 .room)
 
 add-if2 : tie.Need-add-if2 Inv-loop μ-loop
 add-if2 c = omega (arith, c .before .next-stop .ensures .1)
 
 settle-requires : tie.Need-settle-requires Inv-loop μ-loop
-settle-requires c κs = let noted = c .before .before .before .before .before .before in
+settle-requires c κs = let noted = c .before .before .before .before .before in
     let passed = noted .before .next-stop .ensures in
     let inv = noted .before .before .before .before .before .loop .inv in
     let here = passed .0 _ (inv .3) in
-    let along = pass-along _ _ _ _ _ _ _ (inv .0 .some) (inv .1) (here .0) (noted .note-none .ensures) (inv .5) in
+    let along = pass-along _ _ _ _ _ _ _ (inv .0 .some) (inv .1) (here .0) (noted .note-none .ensures) (inv .4) in
     (omega (arith, inv .0, passed .1), (along .order, omega (arith, along .room, passed .1), here .1 .inside (omega arith) .0 .bound))
 
 add-q : tie.Need-add-q Inv-loop μ-loop
-add-q c = let passed = c .before .before .before .before .before .before .before .before .before .before .before .before in
+add-q c = let passed = c .before .before .before .before .before .before .before .before .before .before .before in
     omega (arith, passed .next-stop .ensures .1, passed .before .before .before .before .loop .inv .0 .short)
 
 loop-less : tie.Need-loop-less Inv-loop μ-loop
-loop-less c = let passed = c .before .before .before .before .before .before .before .before .before .before .before .before in
+loop-less c = let passed = c .before .before .before .before .before .before .before .before .before .before .before in
     omega (arith, passed .next-stop .ensures .1, passed .before .before .before .before .loop .inv .0)
 
 loop-again : tie.Need-loop-again Inv-loop μ-loop
 loop-again c = let tried = c .before .before .before .before in
-    let stopped = tried .before .before .before .before .before .before in
+    let stopped = tried .before .before .before .before .before in
     let noted = stopped .before in
     let passed = noted .before .next-stop .ensures in
     let inv = noted .before .before .before .before .before .loop .inv in
     let here = passed .0 _ (inv .3) in
-    let along = pass-along _ _ _ _ _ _ _ (inv .0 .some) (inv .1) (here .0) (noted .note-none .ensures) (inv .5) in (
+    let along = pass-along _ _ _ _ _ _ _ (inv .0 .some) (inv .1) (here .0) (noted .note-none .ensures) (inv .4) in (
       inv .0,
       omega (arith, passed .1),
       omega (arith, passed .1),
       inv .3,
-      inv .4,
       settle-along _ _ _ _ (noted .before .next-stop .result .q) (inv .0 .some) (omega (arith, passed .1)) (stopped .if2 .taken) along
-          (tried .settle .ensures _ (inv .3) (inv .4) (here .1 .inside (stopped .if2 .taken) .0)),
+          (tried .settle .ensures (inv .3) (here .1 .inside (stopped .if2 .taken) .0)),
     )
 
 loop-less-2 : tie.Need-loop-less-2 Inv-loop μ-loop
@@ -119,13 +113,12 @@ loop-again-2 c = let noted = c .before in
       omega (arith, passed .1),
       omega (arith, passed .1),
       inv .3,
-      inv .4,
-      pass-along _ _ _ _ _ _ _ (inv .0 .some) (inv .1) (here .0) (noted .note-none .ensures) (inv .5),
+      pass-along _ _ _ _ _ _ _ (inv .0 .some) (inv .1) (here .0) (noted .note-none .ensures) (inv .4),
     )
 
 try-probed-requires : tie.Need-try-probed-requires Inv-loop μ-loop
 try-probed-requires c κs = let inv = c .before .before .before .before .loop .inv in
-    ((inv .0, omega arith, inv .1), (inv .5 .order, omega (arith, inv .5 .room)))
+    ((inv .0, omega arith, inv .1), (inv .4 .order, omega (arith, inv .4 .room)))
 
 same-length-3 : tie.Need-same-length-3 Inv-loop μ-loop
 same-length-3 c = search needs
@@ -137,7 +130,7 @@ returns-2 : tie.Need-returns-2 Inv-loop μ-loop
 returns-2 c = let tried = c .before .before .before .before in
     let inv = tried .before .before .before .before .before .loop .inv in
     walk-answer _ _ _ _ _ (inv .0 .some) (omega arith)
-    (along-probe _ _ _ _ _ (inv .0 .some) (inv .1) (omega arith) (inv .5) (tried .try-probed .ensures))
+    (along-probe _ _ _ _ _ (inv .0 .some) (inv .1) (omega arith) (inv .4) (tried .try-probed .ensures))
 
 same-length-5 : tie.Need-same-length-5 Inv-loop μ-loop
 same-length-5 c = search needs
@@ -147,7 +140,7 @@ same-length-6 c = search needs
 
 returns-3 : tie.Need-returns-3 Inv-loop μ-loop
 returns-3 c = let inv = c .before .before .loop .inv in
-    walk-answer _ _ _ _ _ (inv .0 .some) (omega arith) (inv .5)
+    walk-answer _ _ _ _ _ (inv .0 .some) (omega arith) (inv .4)
 
 pub over-spans-spec : {M : Type 1} → statement M
 over-spans-spec =
@@ -163,7 +156,6 @@ over-spans-spec =
     returns
     near-masks-requires
     mark-counts-requires
-    costs-of-requires
     sub-q
     loop-holds
     add-loop

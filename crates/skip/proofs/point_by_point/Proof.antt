@@ -13,7 +13,7 @@ use Rattle.skip.proofs.point_by_point.Tie as tie
 
 abbrev Inv-loop : tie.InvT-loop
 Inv-loop spans m gamma recording list₀ sums₀ found₀ at₀ list sums found at =
-    Ready spans m gamma (length recording) × (m ≤ at + 1) × Arrived (ruleIn spans) m gamma recording (lent list₀ sums₀) at (lent list sums) found
+    Ready m gamma (length recording) × (m ≤ at + 1) × Arrived (ruleIn spans) m gamma recording (lent list₀ sums₀) at (lent list sums) found
 
 abbrev μ-loop : tie.MeasureT-loop
 μ-loop spans m gamma recording list₀ sums₀ found₀ at₀ list sums found at = length recording - at
@@ -23,7 +23,7 @@ sub-at c = omega arith
 
 loop-holds : tie.Need-loop-holds Inv-loop μ-loop
 loop-holds c =
-    let known = c .before .before .before .before .pre in
+    let known = c .before .before .before .pre in
     (known .0, omega arith, along-same (walk-start _ _ _ (omega arith)) (along-start _ _ _ _ (known .1)))
 
 try-probed-requires : tie.Need-try-probed-requires Inv-loop μ-loop

@@ -1,9 +1,9 @@
 -- `skip::search` meets its contract: refused as it begins, or as the search over spans answers. Assumes nothing.
 use mathlib.Core.Path.{ap}
 use lib.ListN.{length}
-use Rattle.fit.proofs.Laws.Answers.{refused, begins}
-use Rattle.fit.proofs.Laws.Constructed.{told-spans}
-use Rattle.fit.proofs.Laws.Openings.{underway, may-compile}
+use Rattle.fit.proofs.Laws.Answers.{refused}
+use Rattle.limits.proofs.Laws.Constructed.{told-spans}
+use Rattle.limits.proofs.Laws.Openings.{begins, underway, may-compile}
 use Rattle.fit.proofs.Laws.Compiled.{ready, compiled-near, compiled-answer}
 use Rattle.skip.proofs.Laws.Walks.{same-walk}
 use borrow.Author.Needs.{needs}
@@ -28,16 +28,11 @@ spans-of-requires c κs =
     let known = underway _ _ _ _ (past .before .before .before .checked-search .ensures) (past .before .before .begin .ensures) (past .if1 .left) in
     may-compile _ _ _ (known .ok .asked) (known .carries) (c .d .ensures)
 
-slice-aggregate-over-spans : tie.Need-slice-aggregate-over-spans
-slice-aggregate-over-spans c = search needs
-
 over-spans-requires : tie.Need-over-spans-requires
 over-spans-requires c κs =
-    let made = c .before .before .before in
-    let small = made .before in
-    let past = small .before .before in
+    let past = c .before .before .before .before .before .before in
     let known = underway _ _ _ _ (past .before .before .before .checked-search .ensures) (past .before .before .begin .ensures) (past .if1 .left) in
-    (ready _ _ _ _ _ (told-spans _ _ _ (known .carries) (small .d .ensures) (made .spans-of .ensures)) (known .ok), known .none)
+    (ready _ _ _ _ (known .ok), known .none)
 
 same-length : tie.Need-same-length
 same-length c = search needs
@@ -52,8 +47,9 @@ returns-2 c =
     let small = made .before in
     let past = small .before .before in
     let known = underway _ _ _ _ (past .before .before .before .checked-search .ensures) (past .before .before .begin .ensures) (past .if1 .left) in
+    let given = past .before .before .before .before .before .before .before .before .args in
     let spans = told-spans _ _ _ (known .carries) (small .d .ensures) (made .spans-of .ensures) in
-    compiled-answer _ _ _ _ _ spans (known .ok) _ _ (ap length (same-walk _ _ _ (compiled-near _ _ _ _ spans (known .ok .asked .few)) _)) (done .over-spans .ensures)
+    compiled-answer _ _ _ _ _ spans (known .ok) _ _ (ap length (same-walk _ _ _ (compiled-near (given .delta) (given .gamma) (given .points .now) _ spans (known .ok .asked .few)) _)) (done .over-spans .ensures)
 
 pub search-spec : {M : Type 1} → statement M
 search-spec =
@@ -64,7 +60,6 @@ search-spec =
     returns
     d-requires
     spans-of-requires
-    slice-aggregate-over-spans
     over-spans-requires
     same-length
     same-length-2

@@ -14,7 +14,7 @@ use Rattle.skip.proofs.try_probed.Tie as tie
 
 abbrev Inv-loop : tie.InvT-loop
 Inv-loop spans m gamma recording list₀ sums₀ q n a found₀ i₀ list sums found i =
-    Ready spans m gamma (length recording) × (q < length recording) × (m ≤ q + 1) × (i ≤ m)
+    Ready m gamma (length recording) × (q < length recording) × (m ≤ q + 1) × (i ≤ m)
     × Trying (soughtBy (ruleIn spans) m gamma recording) (probed (ruleIn spans .fit) m recording q m)
     (probed (ruleIn spans .fit) m recording q i) (q + 1 - i) (lent list₀ sums₀) (lent list sums) found₀ found
 
@@ -26,7 +26,7 @@ shared-slice-read-a c = omega arith
 
 loop-holds : tie.Need-loop-holds Inv-loop μ-loop
 loop-holds c =
-    let known = c .before .before .before .before .before .pre in
+    let known = c .before .before .before .before .pre in
     (known .0 .0, known .0 .1, known .0 .2, omega arith, trying-start _ _ _ _ _ (known .1 .0) (omega arith))
 
 sub-i : tie.Need-sub-i Inv-loop μ-loop

@@ -2,6 +2,7 @@
 use mathlib.Core.Path.{sym, ap}
 use Prim.Native.Nat.{ℕ, _+_}
 use native.Mathlib.Omega.{arith}
+use Rattle.fit.specs.Spans.{ruleIn}
 use Rattle.fit.proofs.Laws.Rules.{by-all}
 use Rattle.fit.proofs.Laws.Filters.{kept-tried}
 use Rattle.stops.proofs.Laws.Probing.{those-marked, probe-count}
@@ -39,14 +40,15 @@ returns c = let tallied = c .before .before in
     let fitted = tried .before .before .before in
     let start = fitted .before .before .before .before in
     let given = start .args in
-    λ rule tables costs worth.
+    let rule = ruleIn (given .spans .now) in
+    λ tables worth.
     let marks = fitted .fitting .ensures .0 (rule .fit) (tables .marks) worth in
     kept-tried _ _ (by-all rule (given .m) (given .gamma) (given .recording .now)) _ _ {r = tried .try-marked .result}
     (ap (λ (n : ℕ). given .before .tried + n)
     (sym (probe-count (rule .fit) (given .m) (given .recording .now) (given .q) _ _ _ tables (tallied .count-at .ensures .0, tallied .count-at .ensures .1))))
     (c .count-all .ensures)
     (rw (those-marked (rule .fit) (given .m) (given .recording .now) (given .q) _ (given .m) (omega arith) (omega arith) marks)
-    (tried .try-marked .ensures rule costs marks))
+    (tried .try-marked .ensures marks))
 
 pub settle-spec : {M : Type 1} → statement M
 settle-spec =

@@ -5,30 +5,30 @@ use native.Mathlib.Omega.{arith}
 use lib.ListN.{length}
 use lib.Pow.{pow-pos}
 use borrow.Author.Needs.{needs}
-use Rattle.fit.specs.Rule.{Rule, allFit}
+use Rattle.fit.specs.Rule.{allFit}
+use Rattle.fit.specs.Spans.{ruleIn}
 use Rattle.fit.specs.Answer.{soughtBy, lent}
 use Rattle.fit.proofs.Laws.Tryings.{Trying, trying-start, trying-next, trying-end}
 use Rattle.marks.specs.Marks.{bit, Marks}
 use Rattle.marks.proofs.Laws.Marking.{highest-top, top-all}
-use Rattle.fitted.specs.Costs.{CostTable}
 use Rattle.stops.specs.Passing.{windowsAt}
 use Rattle.stops.proofs.Laws.Probing.{marked-next, marked-none}
 use Rattle.stops.proofs.try_marked.Statement.{statement}
 use Rattle.stops.proofs.try_marked.Tie as tie
 
 abbrev Inv-loop : tie.InvT-loop
-Inv-loop costs m gamma recording list₀ sums₀ q mask found₀ left₀ i₀ list sums found left i = (i ≤ m) × (left ≡ mask % 2 ^ i) × (found .total ≤ found .tried) × (found .tried + i ≤ q + 1)
+Inv-loop spans m gamma recording list₀ sums₀ q mask found₀ left₀ i₀ list sums found left i = (i ≤ m) × (left ≡ mask % 2 ^ i) × (found .total ≤ found .tried) × (found .tried + i ≤ q + 1)
     × (length list ≡ length list₀) × (length sums ≡ length sums₀)
-    × ((rule : Rule) → CostTable m (rule .cost) costs → Marks m (λ (k : ℕ). allFit (rule .fit) recording (q - k) m) mask
-    → Trying (soughtBy rule m gamma recording) (windowsAt (bit mask) q m) (windowsAt (bit mask) q i) (q + 1 - i)
+    × (Marks m (λ (k : ℕ). allFit (ruleIn spans .fit) recording (q - k) m) mask
+    → Trying (soughtBy (ruleIn spans) m gamma recording) (windowsAt (bit mask) q m) (windowsAt (bit mask) q i) (q + 1 - i)
     (lent list₀ sums₀) (lent list sums) found₀ found)
 
 abbrev μ-loop : tie.MeasureT-loop
-μ-loop costs m gamma recording list₀ sums₀ q mask found₀ left₀ i₀ list sums found left i = left
+μ-loop spans m gamma recording list₀ sums₀ q mask found₀ left₀ i₀ list sums found left i = left
 
 loop-holds : tie.Need-loop-holds Inv-loop μ-loop
 loop-holds c = let known = c .before .before .before .pre in
-    (omega arith, top-all _ _ (known .1 .2), known .1 .0, omega arith, refl, refl, λ rule costs marks. trying-start _ _ _ _ _ (known .1 .0) (omega arith))
+    (omega arith, top-all _ _ (known .1 .2), known .1 .0, omega arith, refl, refl, λ marks. trying-start _ _ _ _ _ (known .1 .0) (omega arith))
 
 take-highest-requires : tie.Need-take-highest-requires Inv-loop μ-loop
 take-highest-requires c κs = omega arith
@@ -63,9 +63,9 @@ loop-again c = let tried = c .before .before .before .before in
       omega (arith, top .below, inv .3, counts .1),
       search needs,
       search needs,
-      λ rule costs marks.
-          trying-next _ _ _ _ (inv .6 rule costs marks) (marked-next _ _ (at-loop .loop .i) top)
-          (tried .try-fitting .ensures .0 rule costs (sym (marks .each (taken .take-highest .result .point) (omega (arith, top .below))) ∙ top .marked))
+      λ marks.
+          trying-next _ _ _ _ (inv .6 marks) (marked-next _ _ (at-loop .loop .i) top)
+          (tried .try-fitting .ensures .0 (sym (marks .each (taken .take-highest .result .point) (omega (arith, top .below))) ∙ top .marked))
           (omega (arith, top .below)),
     )
 
@@ -79,7 +79,7 @@ returns : tie.Need-returns Inv-loop μ-loop
 returns c = let at-loop = c .before in
     let inv = at-loop .loop .inv in
     let none-left : at-loop .loop .left ≡ 0 = omega arith in
-    λ rule costs marks. trying-end _ _ (inv .6 rule costs marks) (marked-none _ _ (at-loop .loop .i) (sym (inv .1) ∙ none-left))
+    λ marks. trying-end _ _ (inv .6 marks) (marked-none _ _ (at-loop .loop .i) (sym (inv .1) ∙ none-left))
 
 pub try-marked-spec : {M : Type 1} → statement M
 try-marked-spec =

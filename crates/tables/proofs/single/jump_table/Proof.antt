@@ -22,7 +22,7 @@ cast-greatest-near : tie.Need-cast-greatest-near Inv-loop μ-loop
 cast-greatest-near c = omega arith
 
 greatest-near-requires : tie.Need-greatest-near-requires Inv-loop μ-loop
-greatest-near-requires c κs = c .before .before .before .pre .0
+greatest-near-requires c κs = c .before .before .pre .0
 
 sub-jump : tie.Need-sub-jump Inv-loop μ-loop
 sub-jump c = omega (arith, c .greatest-near .ensures .1)
@@ -42,7 +42,7 @@ loop-less c = omega arith
 loop-again : tie.Need-loop-again Inv-loop μ-loop
 loop-again c =
     let h = c .before .before .loop .inv in
-    (omega arith, holds-more _ 256 _ _ (h .1) (omega arith) (ap (λ (g : ℕ). c .before .before .before .before .args .top - g) (c .greatest-near .ensures .0)))
+    (omega arith, holds-more _ 256 _ _ (h .1) (omega arith) (ap (λ (g : ℕ). c .before .before .before .args .top - g) (c .greatest-near .ensures .0)))
 
 returns : tie.Need-returns Inv-loop μ-loop
 returns c = let h = c .before .loop .inv in holds-end _ 256 _ _ (h .1) (h .0) (omega arith)

@@ -15,11 +15,11 @@ suits-requires c κs = search needs
 
 returns : tie.Need-returns
 returns c =
-    let a = c .before .before .before .args in
+    let a = c .before .before .args in
     sym (zero-last-jump (ruleIn (a .spans .now) .fit) _ (a .a) (omega arith) (sym (c .before .suits .ensures) ∙ c .if1 .taken))
 
 returns-2 : tie.Need-returns-2
-returns-2 c = c .before .before .before .pre .0 ∙ seen-where-far _ _ _ (omega arith) (sym (c .before .suits .ensures) ∙ c .if1 .left)
+returns-2 c = c .before .before .pre .0 ∙ seen-where-far _ _ _ (omega arith) (sym (c .before .suits .ensures) ∙ c .if1 .left)
 
 pub last-of-spec : {M : Type 1} → statement M
 last-of-spec = tie.close (tie.spec sub-suits suits-requires returns returns-2)

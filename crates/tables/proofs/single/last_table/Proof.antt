@@ -24,7 +24,7 @@ element-copy-out-last-of : tie.Need-element-copy-out-last-of Inv-loop μ-loop
 element-copy-out-last-of c = omega arith
 
 last-of-requires : tie.Need-last-of-requires Inv-loop μ-loop
-last-of-requires c κs = (c .before .before .before .before .pre .0 .at _ (omega arith), omega arith, omega arith)
+last-of-requires c κs = (c .before .before .before .pre .0 .at _ (omega arith), omega arith, omega arith)
 
 array-write-table : tie.Need-array-write-table Inv-loop μ-loop
 array-write-table c = omega arith

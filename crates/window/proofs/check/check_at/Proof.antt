@@ -9,7 +9,7 @@ use Rattle.window.proofs.check.check_at.Statement.{statement}
 use Rattle.window.proofs.check.check_at.Tie as tie
 
 abbrev Inv-loop : tie.InvT-loop
-Inv-loop spans m gamma recording s sum₀ i₀ sum i = (i ≤ m) × Matched (ruleIn spans) recording s i sum 65790
+Inv-loop spans m gamma recording s sum₀ i₀ sum i = (i ≤ m) × Matched (ruleIn spans) recording s i sum 65535
 
 abbrev μ-loop : tie.MeasureT-loop
 μ-loop spans m gamma recording s sum₀ i₀ sum i = m - i

@@ -1,20 +1,22 @@
--- `window::check::is_place` meets its contract: the verdict says whether the window is a place. Assumes nothing.
-use mathlib.Core.Path.{_∙_}
-use native.Mathlib.Omega.{arith}
-use Rattle.fit.proofs.Laws.Verdicts.{told-place}
+-- `window::check::is_place` meets its contract: a window is a place where its score is at most gamma. Assumes nothing.
+use mathlib.Core.Path.{ap, _∙_}
+use Prim.Native.Nat.{ℕ}
+use lib.Dec.{leb}
 use borrow.Author.Needs.{needs}
+use Rattle.spans.proofs.Laws.Scores.{score-place}
 use Rattle.window.proofs.check.is_place.Statement.{statement}
 use Rattle.window.proofs.check.is_place.Tie as tie
 
-check-at-requires : tie.Need-check-at-requires
-check-at-requires c κs = search needs
+score-at-requires : tie.Need-score-at-requires
+score-at-requires c κs = search needs
 
-fits-requires : tie.Need-fits-requires
-fits-requires c κs = search needs
+cast-result : tie.Need-cast-result
+cast-result c = search needs
 
 returns : tie.Need-returns
 returns c =
-    c .fits2 .ensures ∙ told-place _ _ _ _ _ (c .before .check-at .ensures) (omega arith)
+    let given = c .before .before in
+    ap (λ (k : ℕ). leb k (given .args .gamma)) (c .score-at .ensures (given .args .gamma)) ∙ score-place _ _ _ _ _ (given .pre .1) (given .pre .2)
 
 pub is-place-spec : {M : Type 1} → statement M
-is-place-spec = tie.close (tie.spec check-at-requires fits-requires returns)
+is-place-spec = tie.close (tie.spec score-at-requires cast-result returns)
