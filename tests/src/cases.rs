@@ -1813,6 +1813,40 @@ mod coverage {
         }
     }
 
+    /// Points are asked eight at a time, and those behind the last eight one by one: a window that falls at one point alone, each of an eight, and places
+    /// of about as many points as eights have. The last point is near, so that last tries the window.
+    fn eight_situations(case: &Case, found: &[i64]) -> Vec<(&'static str, bool)> {
+        const ONLY: [&str; 8] = [
+            "eight: only its first point is far",
+            "eight: only its second point is far",
+            "eight: only its third point is far",
+            "eight: only its fourth point is far",
+            "eight: only its fifth point is far",
+            "eight: only its sixth point is far",
+            "eight: only its seventh point is far",
+            "eight: only its last point is far",
+        ];
+        let m = case.profile.points.len();
+        let (eights, place) = (m / 8 * 8, !found.is_empty());
+        let far: Vec<usize> = windows(case)
+            .filter_map(|(_, window)| fall(&case.profile, window))
+            .filter_map(|(how, i)| (!matches!(how, Fall::Over) && i + 1 < m).then_some(i))
+            .collect();
+        let mut met: Vec<(&'static str, bool)> =
+            (0..8).map(|k| (ONLY[k], far.iter().any(|&i| i < eights && i % 8 == k))).collect();
+        met.extend([
+            ("eight: only a point behind the last eight is far", far.iter().any(|&i| i >= eights)),
+            ("eight: 7 points, a place", m == 7 && place),
+            ("eight: 8 points, a place", m == 8 && place),
+            ("eight: 9 points, a place", m == 9 && place),
+            ("eight: 16 points, a place", m == 16 && place),
+            ("eight: 17 points, a place", m == 17 && place),
+            ("eight: 63 points, a place", m == 63 && place),
+            ("eight: 64 points, a place", m == 64 && place),
+        ]);
+        met
+    }
+
     /// What is tried with so many words of counters as an accepted case has. k counters go into a word, so that the counter of point i, counted
     /// from 0, is number i % k of word i / k.
     fn word_situations(case: &Case) -> Vec<(&'static str, bool)> {
@@ -1893,7 +1927,8 @@ mod coverage {
             let sums = [least_situations(&case, &found), great_situations(&case, &found)].concat();
             let seen = [seen_situations(&case), landing_situations(&case, &found)].concat();
             let (blocks, probes) = (block_situations(&case, &found, &near), probe_situations(&case, &found, &near));
-            for (situation, yes) in [blocks, probes, zeros, check_situations(&case), sums, seen].concat() {
+            let eights = eight_situations(&case, &found);
+            for (situation, yes) in [blocks, probes, zeros, check_situations(&case), sums, seen, eights].concat() {
                 meets(situation, yes);
             }
         }
