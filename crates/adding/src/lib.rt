@@ -1,4 +1,6 @@
 // The additions: what each reading adds to the packed searcher's counters, as a table that is built once per search.
+#![tactic(auto)]
+
 ghost use Rattle.std.specs.Prelude.{◌≡◌, min, suc, ◌+◌, ◌*◌, ◌≤◌, ◌<◌, ◌^◌, length};
 ghost use Rattle.fit.specs.Reading.{highest};
 ghost use Rattle.fit.specs.Refusal.{max_points};

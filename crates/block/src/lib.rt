@@ -1,5 +1,7 @@
 // 64 windows at a time: first which of them fit, and where any does, the scores of all, which tell the places and their sums. Most blocks have no
 // window that fits, and are only counted. A block leaves just what its windows leave when they are tried one by one.
+#![tactic(auto)]
+
 ghost use Rattle.std.specs.Prelude.{◌≡◌, ◌+◌, ◌≤◌, ◌<◌, ◌^◌, min, length};
 ghost use Rattle.fit.specs.Spans.{rule_in, Ready};
 ghost use Rattle.fit.specs.Answer.{sought_by, lent};

@@ -1,6 +1,8 @@
 // Counters side by side in words of 64 bits, and the masks that step them: what the packed searcher is built of.
 // A counter has b low bits and a top bit above them. Counter 0 stands lowest in the first word, and no counter stands in two words. Nothing
 // here knows of readings or profiles.
+#![tactic(auto)]
+
 ghost use Rattle.std.specs.Prelude.{◌≡◌, suc, ◌*◌, ◌<◌, ◌≤◌, ◌^◌, length};
 ghost use Rattle.counters.specs.Width.{low_bits};
 ghost use Rattle.counters.specs.Word.{word_bits, counter, Laid};

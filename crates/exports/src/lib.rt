@@ -1,5 +1,7 @@
 // The boundary to C and Rust: a function for each searcher and each question, with the contract of what it calls; `first` and `check` are told in numbers.
 // include/jilbaroof.h declares these functions for C, rust/jilbaroof.rs wraps them for Rust.
+#![tactic(auto)]
+
 ghost use Rattle.std.specs.Prelude.{◌≡◌, ◌-◌, length};
 ghost use Rattle.fit.specs.Place.{fit_of, d_of, windows};
 ghost use Rattle.fit.specs.Refusal.{question_refusal, search_refusal};

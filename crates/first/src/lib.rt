@@ -1,4 +1,6 @@
 // Is there one at all? The first place, or none: it goes along last's walk, and stops there.
+#![tactic(auto)]
+
 ghost use Rattle.std.specs.Prelude.{◌≡◌};
 ghost use Rattle.fit.specs.Refusal.{search_refusal};
 ghost use Rattle.fit.specs.Spans.{rule_in};

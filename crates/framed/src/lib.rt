@@ -1,4 +1,6 @@
 // The head of a frame of the trial: the numbers before a case's points and readings, each with its high byte first.
+#![tactic(auto)]
+
 ghost use Rattle.std.specs.Prelude.{◌≡◌, ◌<◌, ◌≤◌, ◌^◌, get_or};
 ghost use Rattle.framed.specs.Head.{number_at, head_of};
 

@@ -1,4 +1,6 @@
 // The input of the program, taken apart.
+#![tactic(auto)]
+
 ghost use Rattle.std.specs.Prelude.{◌≡◌, ◌≤◌};
 ghost use Rattle.input.specs.Inputs.{front_of, points_in, recording_in};
 

@@ -1,4 +1,6 @@
 // Why is it no place? The window check, asked for one s.
+#![tactic(auto)]
+
 ghost use Rattle.std.specs.Prelude.{◌≡◌, length};
 ghost use Rattle.fit.specs.Verdict.{verdict_of};
 ghost use Rattle.judging.specs.Judging.{of_window, check_refusal, told_all, check_answer};

@@ -1,4 +1,6 @@
 // Maximal's walk: it compares points in the order that promises the longest jumps, and takes the larger of two jumps.
+#![tactic(auto)]
+
 mod step;
 
 ghost use Rattle.std.specs.Prelude.{◌≡◌, length};

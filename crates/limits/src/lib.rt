@@ -1,4 +1,6 @@
 // The checked types of a call's input, and the number by which bad input is refused.
+#![tactic(auto)]
+
 ghost use Rattle.std.specs.Prelude.{◌≡◌, ◌≤◌, min, length, replicate};
 ghost use Rattle.fit.specs.Place.{d_of, g_of};
 ghost use Rattle.fit.specs.Listing.{overlay};

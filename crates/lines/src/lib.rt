@@ -1,4 +1,6 @@
 // The lines that the program writes, put on a page one behind the other.
+#![tactic(auto)]
+
 ghost use Rattle.std.specs.Prelude.{◌≡◌};
 ghost use Rattle.page.specs.Put.{Put};
 ghost use Rattle.lines.specs.Lines.{ended, counts_line, refused_line, line_of, lines_of};

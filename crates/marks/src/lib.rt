@@ -1,5 +1,7 @@
 // Words of marks: bit i of a word stands for point i. A search makes, for each reading, the word of the points that it suits; a look-up then tells
 // all of them at once, and shifting and joining words asks many points in a few instructions.
+#![tactic(auto)]
+
 ghost use Rattle.std.specs.Prelude.{◌≡◌, ℕ, ◌+◌, ◌≤◌, ◌<◌, min, length, get_or};
 ghost use Rattle.std.specs.Int.Count.{ones};
 ghost use Rattle.fit.specs.Listing.{Entries};

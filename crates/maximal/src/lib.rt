@@ -1,4 +1,6 @@
 // The maximal searcher: what it goes by is prepared here, and how it goes stands in `leaping`.
+#![tactic(auto)]
+
 ghost use Rattle.std.specs.Prelude.{length};
 ghost use Rattle.fit.specs.Place.{d_of};
 ghost use Rattle.fit.specs.Answer.{lent, Answers};

@@ -1,4 +1,6 @@
 // What is noted of windows: each is counted, and a place is listed with its sum. `window` passes `note` and `note_none` on.
+#![tactic(auto)]
+
 ghost use Rattle.std.specs.Prelude.{◌≡◌, ◌+◌, ◌<◌, ◌^◌, set};
 ghost use Rattle.fit.specs.Sums.{lowered};
 ghost use Rattle.fit.specs.Answer.{lent, Noted};

@@ -1,5 +1,7 @@
 // An ordinary profile, whose points are readings and share one delta, compiled once per search to four numbers a point. By d: then a reading
 // suits a point just where it is near.
+#![tactic(auto)]
+
 ghost use Rattle.std.specs.Prelude.{◌≡◌, ◌≤◌};
 ghost use Rattle.fit.specs.Refusal.{max_points, max_delta};
 ghost use Rattle.limits.specs.Made.{points_of};

@@ -1,5 +1,7 @@
 // The packed searcher: a counter for each point, side by side in as many words as needed, stepped once for each reading.
 // What a place is stands in fit, what a counter is in counters, what each reading adds in adding, and how it is scanned in scan; here is the search.
+#![tactic(auto)]
+
 ghost use Rattle.std.specs.Prelude.{length};
 ghost use Rattle.fit.specs.Place.{windows};
 ghost use Rattle.fit.specs.Answer.{lent, Answers};

@@ -1,4 +1,6 @@
 // A page: bytes that are put one behind the other and then written at once, since each write costs a call of the system.
+#![tactic(auto)]
+
 ghost use Rattle.std.specs.Prelude.{◌≡◌, ◌+◌, ◌≤◌, min, length};
 ghost use Rattle.std.proofs.Math.Seq.{paste};
 ghost use Rattle.page.specs.Put.{Put, decimal};

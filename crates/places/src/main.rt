@@ -1,5 +1,7 @@
 // The program: it reads standard input to its end, and writes the report on it. An input that is too long needs no more than its first
 // 12,001 bytes. Where reading or writing fails, a line on standard error says which; an input that was not read to its end has no report.
+#![tactic(auto)]
+
 mod calls;
 
 use libc::{STDERR_FILENO, STDIN_FILENO, STDOUT_FILENO};

@@ -1,6 +1,8 @@
 // The plain searcher: it tries every window. It goes by blocks of 64, because the processor then does the same to many windows at once; a block
 // leaves what its 64 windows leave when they are tried one after the other, which is all that is used of it here. The windows after the last
 // whole block are tried one by one.
+#![tactic(auto)]
+
 ghost use Rattle.std.specs.Prelude.{◌≡◌, ◌-◌, ◌≤◌, length};
 ghost use Rattle.fit.specs.Place.{windows};
 ghost use Rattle.fit.specs.Spans.{rule_in, Ready};

@@ -1,5 +1,7 @@
 // The windows that hold a probe, all at once: each is told by the point that it puts there, and they are marked in a word. Each reading beside the
 // probe stands at another point of each of these windows; shifted by its distance, its own word of marks says which of them it suits.
+#![tactic(auto)]
+
 ghost use Rattle.std.specs.Prelude.{Bool, ℕ, ◌+◌, ◌-◌, ◌≤◌, ◌<◌, length};
 ghost use Rattle.fit.specs.Rule.{all_fit};
 ghost use Rattle.fit.specs.Refusal.{max_points};

@@ -1,4 +1,6 @@
 // The questions: each tests what is turned away, and then asks its rule for a jump. The one about a window stands in `judging`, and is passed on.
+#![tactic(auto)]
+
 ghost use Rattle.std.specs.Prelude.{◌≡◌, ◌-◌, length};
 ghost use Rattle.fit.specs.Place.{fit_of, d_of};
 ghost use Rattle.fit.specs.Refusal.{question_refusal};

@@ -1,4 +1,6 @@
 // Readings: differences, which of them are near, and a byte as an index.
+#![tactic(auto)]
+
 ghost use Rattle.std.specs.Prelude.{◌≡◌, ◌+◌, ◌-◌, ◌%◌, ◌≤◌, min, max, nat_le};
 ghost use Rattle.fit.specs.Reading.{lowest, highest, diff, alike, near};
 

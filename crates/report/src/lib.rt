@@ -1,4 +1,6 @@
 // What the program writes of an input, as a text on a page.
+#![tactic(auto)]
+
 ghost use Rattle.std.specs.Prelude.{◌≡◌, ◌≤◌, length};
 ghost use Rattle.input.specs.Inputs.{max_input};
 ghost use Rattle.page.specs.Put.{Put};

@@ -1,5 +1,7 @@
 // The scan: one step of packed's counters for each reading, and what the last point's counter tells of the window that ends there.
 // What a counter is stands in counters, and what each reading adds in adding. In how many words the counters stand is the caller's to say.
+#![tactic(auto)]
+
 ghost use Rattle.std.specs.Prelude.{◌≡◌, true, cond, suc, ◌+◌, ◌-◌, ◌*◌, ◌%◌, ◌^◌, ◌≤◌, ◌<◌, length, replicate};
 ghost use Rattle.fit.specs.Place.{windows};
 ghost use Rattle.fit.specs.Answer.{lent, begun};

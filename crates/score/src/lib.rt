@@ -1,6 +1,8 @@
 // The scores of 64 windows, where it is known which of them fit: the sum of each that does, cut off at 65,535, and that much for every other. No
 // gamma reaches so far, so a score is at most gamma exactly where its window is a place. A score is a 16-bit number, and no loop over the windows
 // has a branch in it, so that the compiler makes vector instructions of eight at once.
+#![tactic(auto)]
+
 ghost use Rattle.std.specs.Prelude.{◌≡◌, cond, ◌+◌, ◌-◌, ◌≤◌, ◌<◌, min, length, get_or, eqb};
 ghost use Rattle.fit.specs.Rule.{all_fit};
 ghost use Rattle.fit.specs.Listing.{Entries};

@@ -1,6 +1,8 @@
 // The sieve: which of 64 windows fit, that is, have all their readings suit their points. Most blocks have none, and most of these are seen after three
 // points. A point is one comparison of bytes, and no loop over the windows has a branch in it, so that the compiler makes vector instructions
 // of sixteen at once.
+#![tactic(auto)]
+
 ghost use Rattle.std.specs.Prelude.{◌≡◌, cond, ◌+◌, ◌-◌, ◌*◌, ◌≤◌, ◌<◌, min, max, length, get_or, leb};
 ghost use Rattle.fit.specs.Rule.{all_fit};
 ghost use Rattle.fit.specs.Listing.{Entries};

@@ -1,5 +1,7 @@
 // The skip searcher: it probes every m-th reading, and tries the windows that put a near point there. Where there are readings enough it looks only
 // at those that the readings beside the probe suit too: every place is among them. All are counted.
+#![tactic(auto)]
+
 ghost use Rattle.std.specs.Prelude.{◌≡◌, ◌+◌, ◌≤◌, ◌<◌, length};
 ghost use Rattle.fit.specs.Place.{fit_of, d_of};
 ghost use Rattle.fit.specs.Spans.{rule_in, Ready};

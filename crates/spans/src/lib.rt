@@ -1,6 +1,8 @@
 // The tests over spans, that is, over a profile that is compiled to four rows of numbers: of one point, and of a whole window. A window's points are
 // asked eight at a time, and adding up has no branch in it: so the compiler asks and adds several points at once. The row of the first readings that
 // suit begins at 0, that of the last at 64, and those of the first and the last that cost nothing at 128 and 192.
+#![tactic(auto)]
+
 ghost use Rattle.std.specs.Prelude.{◌≡◌, true, ℕ, ◌+◌, ◌-◌, ◌≤◌, ◌<◌, min, length};
 ghost use Rattle.fit.specs.Refusal.{max_points};
 ghost use Rattle.fit.specs.Rule.{all_fit, sum_cost};

@@ -1,5 +1,7 @@
 // From probe to probe, m readings at a time, where all windows of a probe lie inside the recording: most probes have no window worth a look, and are
 // passed; the search stops at the others.
+#![tactic(auto)]
+
 ghost use Rattle.std.specs.Prelude.{Bool, ℕ, ◌+◌, ◌-◌, ◌*◌, ◌≤◌, ◌<◌, ◌^◌, length};
 ghost use Rattle.fit.specs.Reading.{highest};
 ghost use Rattle.fit.specs.Rule.{all_fit};

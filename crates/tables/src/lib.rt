@@ -1,5 +1,7 @@
 // The jumps, computed: one by one for the questions, and those of all readings as tables that a search builds once.
 // Points and positions count from 0.
+#![tactic(auto)]
+
 mod several;
 mod single;
 

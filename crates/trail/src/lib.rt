@@ -1,4 +1,6 @@
 // A chain found back in a table of least sums, point by point.
+#![tactic(auto)]
+
 ghost use mathlib.Core.Path.{◌≡◌};
 ghost use Prim.Native.Nat.{◌+◌, ◌*◌, ◌≤◌, ◌<◌, ◌^◌};
 ghost use lib.ListN.{length};

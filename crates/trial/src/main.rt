@@ -1,5 +1,7 @@
 // Reads framed cases from standard input and prints, for each, what every searcher and every question answers. tests/ makes the cases and
 // knows the answers; specs/Head.antt of the crate `framed` says what a frame is.
+#![tactic(auto)]
+
 mod asked;
 mod judged;
 mod lines;

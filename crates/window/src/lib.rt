@@ -1,6 +1,8 @@
 // One window at a time: its check over spans, and what is noted of it, which crate `noting` has. A window that is tried by itself is tried here, by
 // its score, which crate `spans` has.
 // What a place is, what spans say and what is noted stand in the definitions of `fit`.
+#![tactic(auto)]
+
 mod check;
 mod trying;
 

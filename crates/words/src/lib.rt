@@ -1,5 +1,7 @@
 // The scan in as many words as packed's counters take. Up to five stand in an array of just that length: where the number of words is a constant
 // the compiler keeps them in registers. More are the front of an array that serves any number.
+#![tactic(auto)]
+
 ghost use Rattle.std.specs.Prelude.{◌≡◌, ◌≤◌};
 ghost use Rattle.fit.specs.Answer.{lent, begun};
 ghost use Rattle.scan.specs.Following.{Scannable, Scans};
