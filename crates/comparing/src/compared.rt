@@ -9,7 +9,7 @@ ghost use Rattle.comparing.specs.Writing.{HoldsOrder, HoldsAgreeing};
 use limits::Profile;
 
 // The points in the order in which they are compared, and the mismatch jump of each point.
-#[derive(Drop)]
+#[derive(Clone, Copy)]
 pub struct Compared {
     pub order: [u8; Profile::MAX_POINTS],
     pub jumps: [u8; Profile::MAX_POINTS],

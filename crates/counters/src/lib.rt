@@ -12,7 +12,7 @@ ghost use Rattle.counters.specs.Sound.{Sound, LaidOut};
 
 // A word of `per` counters with b low bits each, for sums up to g: the low bits and the top bit of every counter, and a counter at the
 // sum 0. The masks are the same for every word.
-#[derive(Drop)]
+#[derive(Clone, Copy)]
 pub struct Masks {
     pub b: u32,
     pub per: u32,

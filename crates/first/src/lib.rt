@@ -9,14 +9,14 @@ ghost use Rattle.last.specs.Walk.{last_walk_of, walk_in, Walkable};
 ghost use Rattle.first.specs.First.{told_of, first_answer};
 
 // Where the first place is.
-#[derive(Drop)]
+#[derive(Clone, Copy)]
 pub enum Spot {
     Nowhere,
     At(usize),
 }
 
 // The number of the refusal, nowhere and 0; or 0, where the first place is, and the count of windows tried.
-#[derive(Drop)]
+#[derive(Clone, Copy)]
 pub struct First {
     pub refusal: u32,
     pub spot: Spot,
@@ -25,7 +25,7 @@ pub struct First {
 
 // The same in numbers alone: `found` is 1 where a place is told; else, and where the call is refused, it and `place` are 0.
 #[repr(C)]
-#[derive(Drop)]
+#[derive(Clone, Copy)]
 pub struct Flat {
     pub refusal: u32,
     pub found: u32,

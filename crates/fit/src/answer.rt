@@ -5,7 +5,7 @@ ghost use Rattle.fit.specs.Answer.{begun};
 // The number of the refusal and zeros; or 0, the total of places, the count of windows tried, and the least sum of all places. No place leaves it 0,
 // and so does a perfect fit: the total tells which.
 #[repr(C)]
-#[derive(Drop)]
+#[derive(Clone, Copy)]
 pub struct Search {
     pub refusal: u32,
     pub total: usize,

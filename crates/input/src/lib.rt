@@ -8,7 +8,7 @@ ghost use Rattle.input.specs.Inputs.{front_of, points_in, recording_in};
 pub const MAX_INPUT: usize = 12000;
 
 // The numbers in front of the points and 0, or the number of the refusal and zeros.
-#[derive(Drop)]
+#[derive(Clone, Copy)]
 pub struct Front {
     pub refusal: u32,
     pub delta: u32,

@@ -8,7 +8,7 @@ ghost use Rattle.judging.specs.Judging.{of_window, check_refusal, told_all, chec
 use fit::Verdict;
 
 // The number of the refusal and `Far(0)`, since no point has the number 0; or 0 and what the check of the window answers.
-#[derive(Drop)]
+#[derive(Clone, Copy)]
 pub struct Judged {
     pub refusal: u32,
     pub verdict: Verdict,
@@ -17,7 +17,7 @@ pub struct Judged {
 // The same in numbers alone: `kind` is 0 where a point is far, 1 where the window is a place, and 2 where its sum exceeds g. `point` and `sum` are 0
 // where the kind has none, and all three where the call is refused.
 #[repr(C)]
-#[derive(Drop)]
+#[derive(Clone, Copy)]
 pub struct FlatVerdict {
     pub refusal: u32,
     pub kind: u32,

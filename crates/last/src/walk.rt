@@ -6,7 +6,7 @@ ghost use Rattle.last.specs.Prepared.{PreparedBy};
 
 // What the walk goes by, built once per search: the spans of the profile, and for each reading its last-reading jump and its jump after a
 // tried window. Refused, the number and zeros.
-#[derive(Drop)]
+#[derive(Clone, Copy)]
 pub struct Prepared {
     pub refusal: u32,
     pub spans: [u16; 256],

@@ -8,14 +8,14 @@ ghost use Rattle.fit.specs.Refusal.{max_points, max_delta, max_gamma, max_readin
 ghost use Rattle.limits.specs.Made.{tolerance_made, profile_made, question_checked, search_checked};
 
 // The two tolerances: `delta` bounds each difference, `gamma` their sum.
-#[derive(Drop)]
+#[derive(Clone, Copy)]
 pub struct Tolerance {
     delta: u32,
     gamma: u32,
 }
 
 // A tolerance and 0, or the number of the refusal.
-#[derive(Drop)]
+#[derive(Clone, Copy)]
 pub struct MadeTolerance {
     pub refusal: u32,
     pub tolerance: Tolerance,
@@ -28,7 +28,7 @@ impl Tolerance {
 
     pub fn new(delta: u32, gamma: u32) -> MadeTolerance
         ensures value { result ≡ tolerance_made delta gamma }
-        ensures* limits { do ⌜ ((← (⟦Tolerance::MAX_DELTA⟧).entry) ≡ max_delta) × ((← (⟦Tolerance::MAX_GAMMA⟧).entry) ≡ max_gamma) ⌝ }
+        ensures limits { (Tolerance.MAX_DELTA ≡ max_delta) × (Tolerance.MAX_GAMMA ≡ max_gamma) }
     {
         if Tolerance::MAX_DELTA < delta {
             return MadeTolerance {
@@ -78,14 +78,14 @@ fn smaller(a: u32, b: u32) -> u32
 }
 
 // A profile: its m points, and zeros beyond them.
-#[derive(Drop)]
+#[derive(Clone, Copy)]
 pub struct Profile {
     points: [u8; Profile::MAX_POINTS],
     m: usize,
 }
 
 // A profile and 0, or the number of the refusal.
-#[derive(Drop)]
+#[derive(Clone, Copy)]
 pub struct MadeProfile {
     pub refusal: u32,
     pub profile: Profile,
@@ -98,7 +98,7 @@ impl Profile {
 
     pub fn new(points: &[u8]) -> MadeProfile
         ensures value { result ≡ profile_made points.now }
-        ensures* limits { do ⌜ ((← (⟦Profile::MAX_POINTS⟧).entry) ≡ max_points) × ((← (⟦Profile::MAX_READINGS⟧).entry) ≡ max_readings) ⌝ }
+        ensures limits { (Profile.MAX_POINTS ≡ max_points) × (Profile.MAX_READINGS ≡ max_readings) }
     {
         let refusal = of_profile(points);
         if refusal != 0 {
@@ -180,7 +180,7 @@ fn held_points(points: &[u8]) -> [u8; Profile::MAX_POINTS]
 }
 
 // What a call is asked with, once it is looked at: the number of the refusal, or 0 and the checked input.
-#[derive(Drop)]
+#[derive(Clone, Copy)]
 pub struct Checked {
     pub refusal: u32,
     pub profile: Profile,

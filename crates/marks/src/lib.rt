@@ -13,7 +13,7 @@ ghost use Rattle.marks.specs.Marks.{word_bits, readings, Marks, MarkTable, Highe
 const ALL: u64 = 0xffff_ffff_ffff_ffff;
 
 // The highest point that is marked, and the marks without it.
-#[derive(Drop)]
+#[derive(Clone, Copy)]
 pub struct Taken {
     pub point: usize,
     pub left: u64,

@@ -6,7 +6,7 @@ ghost use Rattle.std.specs.Prelude.{◌≤◌, length};
 const TRIES: u32 = 1000000;
 
 // How many bytes stand at the start of the buffer, and whether reading stopped there because a read failed.
-#[derive(Drop)]
+#[derive(Clone, Copy)]
 pub(crate) struct Got {
     pub(crate) n: usize,
     pub(crate) failed: bool,

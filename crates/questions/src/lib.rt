@@ -12,7 +12,7 @@ pub use judging::{FlatVerdict, Judged, check, told};
 
 // The number of the refusal and a jump of 0; or 0 and the jump.
 #[repr(C)]
-#[derive(Drop)]
+#[derive(Clone, Copy)]
 pub struct Jump {
     pub refusal: u32,
     pub jump: usize,
@@ -29,7 +29,7 @@ fn refused(number: u32) -> Jump
 }
 
 // What the questions about one reading go by: the spans of the profile. Refused, the number and zeros.
-#[derive(Drop)]
+#[derive(Clone, Copy)]
 struct Compiled {
     refusal: u32,
     spans: [u16; 256],

@@ -11,14 +11,14 @@ ghost use Rattle.fit.specs.Spans.{span_fits, rule_in};
 ghost use Rattle.sieve.specs.Sieve.{mark, some, passes, Ranged};
 
 // Which of 64 windows fit: whether any does, and a mark for each, 1 or 0.
-#[derive(Drop)]
+#[derive(Clone, Copy)]
 pub struct Fitting {
     pub any: bool,
     pub marks: [u8; 64],
 }
 
 // Readings as bytes: 1 where there are any, the least of them, and how many more follow it.
-#[derive(Drop)]
+#[derive(Clone, Copy)]
 struct Range {
     any: u8,
     least: u8,

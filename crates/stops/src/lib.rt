@@ -17,7 +17,7 @@ use fit::Search;
 
 // Where the search stops: the probe's position, how many windows put a near point at a probe that was passed, and its own windows that are worth a
 // look. At the end of the recording there is no such probe, and the mask is 0.
-#[derive(Drop)]
+#[derive(Clone, Copy)]
 pub struct Stop {
     pub q: usize,
     pub windows: usize,

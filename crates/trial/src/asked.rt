@@ -2,7 +2,7 @@
 use super::lines;
 use questions::Jump;
 
-#[derive(Drop)]
+#[derive(Clone, Copy)]
 enum Question {
     LastReading,
     NextReading,

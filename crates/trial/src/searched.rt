@@ -10,7 +10,7 @@ use framed::Head;
 const MOST_ROOM: usize = 200;
 
 // By which searcher.
-#[derive(Drop)]
+#[derive(Clone, Copy)]
 enum By {
     Plain,
     Packed,
