@@ -1,0 +1,10 @@
+-- `of_window` meets its contract: the windows are those below their count. Assumes nothing.
+use native.Mathlib.Omega.{arith}
+use Rattle.judging.proofs.Laws.Judgings.{window_good, window_bad}
+use Rattle.judging.proofs.of_window.Goals as goal
+
+pub returns-then-s-count_windows : goal.returns-then-s-count_windows
+returns-then-s-count_windows c = window_good _ _ _ (omega arith)
+
+pub returns-else-s-count_windows : goal.returns-else-s-count_windows
+returns-else-s-count_windows c = window_bad _ _ _ (omega arith)

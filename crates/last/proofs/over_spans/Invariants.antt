@@ -1,0 +1,18 @@
+-- `last::over_spans` meets its contract: it goes along the walk, a window at a time. Assumes nothing.
+use Prim.Native.Nat.{◌-◌}
+use lib.ListN.{length}
+use Rattle.fit.specs.Spans.{rule_in}
+use Rattle.fit.specs.Answer.{sought_by, lent}
+use Rattle.fit.proofs.Laws.Alongs.{Along}
+use Rattle.last.specs.Walk.{walk_in}
+use Rattle.last.proofs.Laws.Seeking.{left_in, Stands}
+use Rattle.last.proofs.over_spans.Given as goal
+
+abbrev pub invariant-loop-q : goal.invariant-loop-q
+invariant-loop-q l =
+    Stands l.spans l.table l.seen l.m l.gamma l.recording l.q
+    × Along (sought_by (rule_in l.spans) l.m l.gamma l.recording) (walk_in l.spans l.m l.recording) (left_in l.spans l.m l.recording l.q) (l.q - (l.m - 1))
+    (lent l.initial.list l.initial.sums) (lent l.list l.sums) l.found
+
+abbrev pub decreases-loop-q : goal.decreases-loop-q
+decreases-loop-q l = length l.recording - l.q
