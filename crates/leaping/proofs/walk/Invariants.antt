@@ -1,0 +1,25 @@
+-- `leaping::walk` meets its contract: it goes along the walk, told by where the reading after the window stands. Assumes nothing.
+use mathlib.Core.Bool.{false}
+use mathlib.Core.Path.{◌≡◌, refl, sym, ◌∙◌}
+use Prim.Native.Nat.{◌+◌, ◌-◌, ◌≤◌, ◌<◌}
+use native.Mathlib.Omega.{arith}
+use lib.ListN.{length}
+use borrow.Author.Rules.{rules}
+use Rattle.fit.proofs.Laws.Alongs.{Along, along_start, along_same}
+use Rattle.fit.proofs.Laws.Answers.{noted_miss}
+use Rattle.fit.specs.Answer.{sought_by, lent}
+use Rattle.fit.specs.Spans.{rule_in}
+use Rattle.leaping.proofs.Laws.Prepared.{Prepared, Onward, first_inside, first_near, none_leading, far_false, all_near, table_inside, near_goes, far_goes, along_step, walked, walked_last, walk_begins}
+use Rattle.leaping.proofs.Laws.Steps.{compared_in}
+use Rattle.leaping.proofs.Laws.Walks.{left}
+use Rattle.leaping.specs.Walk.{near_at, maximal_walk}
+use Rattle.leaping.proofs.walk.Given as goal
+
+abbrev pub invariant-loop-e : goal.invariant-loop-e
+invariant-loop-e l =
+    Prepared l.gamma l.points l.recording l.d l.spans l.next l.order l.jumps l.full l.first l.least l.more l.leaps × (length l.points ≤ l.e)
+    × Along (sought_by (rule_in l.spans) (length l.points) l.gamma l.recording) (maximal_walk l.d l.points l.recording) (left l.d l.points l.recording (l.e - length l.points)) (l.e - length l.points)
+    (lent l.initial.list l.initial.sums) (lent l.list l.sums) l.found
+
+abbrev pub decreases-loop-e : goal.decreases-loop-e
+decreases-loop-e l = length l.recording - l.e
