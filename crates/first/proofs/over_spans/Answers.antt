@@ -7,7 +7,7 @@ use Rattle.first.proofs.over_spans.Goals as goal
 
 pub loop-q-init : goal.loop-q-init
 loop-q-init c =
-    let first = stands_first _ _ _ _ _ _ c.requires (λ i. omega (arith, c.shared_slice_known-1.given i)) _ c.tried_from-q.ensures in
+    let first = stands_first _ _ _ _ _ _ c.requires (λ i. omega (arith, c.type_inv.recording i)) _ c.tried_from-q.ensures in
     (first.0, looked_start _ _ first.1)
 
 pub returns-then-is_place : goal.returns-then-is_place

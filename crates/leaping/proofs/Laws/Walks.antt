@@ -8,7 +8,6 @@ use native.Mathlib.Omega.{arith}
 use lib.ListN.{length, get_or}
 use lib.Dec.{ltb}
 use borrow.Author.Tests.{lt-ltb}
-use Rattle.fit.specs.Reading.{near}
 use Rattle.fit.specs.Rule.{reading_at}
 use Rattle.fit.specs.Place.{fit_of, rule_of, Place, d_of, windows}
 use Rattle.fit.specs.Listing.{Rising}

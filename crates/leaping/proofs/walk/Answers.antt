@@ -1,18 +1,11 @@
 -- `leaping::walk` meets its contract: it goes along the walk, told by where the reading after the window stands. Assumes nothing.
-use mathlib.Core.Bool.{false}
-use mathlib.Core.Path.{◌≡◌, refl, sym, ◌∙◌}
-use Prim.Native.Nat.{◌+◌, ◌-◌, ◌≤◌, ◌<◌}
+use mathlib.Core.Path.{refl, sym, ◌∙◌}
 use native.Mathlib.Omega.{arith}
-use lib.ListN.{length}
-use borrow.Author.Rules.{rules}
-use Rattle.fit.proofs.Laws.Alongs.{Along, along_start, along_same}
+use Rattle.fit.proofs.Laws.Alongs.{along_start, along_same}
 use Rattle.fit.proofs.Laws.Answers.{noted_miss}
-use Rattle.fit.specs.Answer.{sought_by, lent}
-use Rattle.fit.specs.Spans.{rule_in}
-use Rattle.leaping.proofs.Laws.Prepared.{Prepared, Onward, first_inside, first_near, none_leading, far_false, all_near, table_inside, near_goes, far_goes, along_step, walked, walked_last, walk_begins}
+use Rattle.fit.specs.Answer.{lent}
+use Rattle.leaping.proofs.Laws.Prepared.{first_inside, first_near, none_leading, far_false, all_near, table_inside, near_goes, far_goes, along_step, walked, walked_last, walk_begins}
 use Rattle.leaping.proofs.Laws.Steps.{compared_in}
-use Rattle.leaping.proofs.Laws.Walks.{left}
-use Rattle.leaping.specs.Walk.{near_at, maximal_walk}
 use Rattle.leaping.proofs.walk.Goals as goal
 
 pub full_jump-full-requires : goal.full_jump-full-requires
@@ -36,7 +29,7 @@ loop-e-init c =
     let known = c.requires.0 in (
       record {
         ready = known;
-        readings = λ i. omega (arith, c.shared_slice_known-2-1.given i);
+        readings = λ i. omega (arith, c.type_inv.recording i);
         whole = c.full_jump-full.ensures;
         foremost = c.index-first.ensures.0;
         lower = c.least_near-least.ensures;
@@ -69,13 +62,11 @@ pub try_compared-found-requires : goal.try_compared-found-requires
 try_compared-found-requires c =
     let inv = c.loop-e.invariant in
     let ok = inv.0.ready.ok in
-    let led = c.near_points-leading.ensures.0 in (
-      (ok.asked.few, omega arith, ok.asked.gamma_small),
-      (
-        (omega (arith, ok.short), omega (arith, ok.short, inv.2.order, inv.2.room), omega (arith, ok.short, inv.2.room)),
-        (far_false inv.0 _ _ led, all_near inv.0 _ _ (omega arith) led),
-      ),
-    )
+    let led = c.near_points-leading.ensures.0 in record {
+      m_le_max_points = (ok.asked.few, omega arith, ok.asked.gamma_small);
+      s_bound = (omega (arith, ok.short), omega (arith, ok.short, inv.2.order, inv.2.room), omega (arith, ok.short, inv.2.room));
+      s_value = (far_false inv.0 _ _ led, all_near inv.0 _ _ (omega arith) led);
+    }
 
 pub overflow_add-e : goal.overflow_add-e
 overflow_add-e c = let ok = c.loop-e.invariant.0.ready.ok in omega (arith, (let inv = c.loop-e.invariant in near_goes inv.0 _ _ _ _ _ inv.1 c.loop-e-test.true c.near_points-leading.ensures.0 c.compared_jump-jump.ensures c.jump_at.ensures.0 c.larger-longer.ensures).short, ok.short, ok.asked.few)

@@ -1,18 +1,12 @@
 -- `leaping::walk` meets its contract: it goes along the walk, told by where the reading after the window stands. Assumes nothing.
-use mathlib.Core.Bool.{false}
-use mathlib.Core.Path.{◌≡◌, refl, sym, ◌∙◌}
-use Prim.Native.Nat.{◌+◌, ◌-◌, ◌≤◌, ◌<◌}
-use native.Mathlib.Omega.{arith}
+use Prim.Native.Nat.{◌-◌, ◌≤◌}
 use lib.ListN.{length}
-use borrow.Author.Rules.{rules}
-use Rattle.fit.proofs.Laws.Alongs.{Along, along_start, along_same}
-use Rattle.fit.proofs.Laws.Answers.{noted_miss}
+use Rattle.fit.proofs.Laws.Alongs.{Along}
 use Rattle.fit.specs.Answer.{sought_by, lent}
 use Rattle.fit.specs.Spans.{rule_in}
-use Rattle.leaping.proofs.Laws.Prepared.{Prepared, Onward, first_inside, first_near, none_leading, far_false, all_near, table_inside, near_goes, far_goes, along_step, walked, walked_last, walk_begins}
-use Rattle.leaping.proofs.Laws.Steps.{compared_in}
+use Rattle.leaping.proofs.Laws.Prepared.{Prepared}
 use Rattle.leaping.proofs.Laws.Walks.{left}
-use Rattle.leaping.specs.Walk.{near_at, maximal_walk}
+use Rattle.leaping.specs.Walk.{maximal_walk}
 use Rattle.leaping.proofs.walk.Given as goal
 
 abbrev pub invariant-loop-e : goal.invariant-loop-e

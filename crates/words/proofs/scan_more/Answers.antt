@@ -1,14 +1,11 @@
 -- `words::scan_more` meets its contract: in an array for four and for five words, and else in the first words of an array of 16.
 use mathlib.Core.Path.{◌≡◌, refl, ap, ◌∙◌}
-use mathlib.Core.List.{List, ◌++◌}
+use mathlib.Core.List.{List}
 use Prim.Native.Nat.{ℕ, ◌-◌, ◌≤◌}
 use native.Mathlib.Omega.{arith}
 use borrow.Rule.Slice.PartMut.{post_of}
 use lib.ListN.{length, take, replicate, length-replicate, length-append}
-use Rattle.fit.specs.Place.{windows}
-use Rattle.scan.specs.Following.{Follows}
 use Rattle.words.proofs.Laws.Arms.{fresh_part, same_part, may_lead, may_window}
-use borrow.Author.Rules.{rules}
 use Rattle.words.proofs.scan_more.Goals as goal
 
 long : (used top : ℕ) → used ≤ 16 → length (take (used - 0) (replicate {A = ℕ} 16 top)) ≡ used
@@ -19,7 +16,8 @@ read_lead-lead-requires c = (may_lead _ _ _ _ _ _ c.if-used-eq4.true c.requires.
 
 pub read_windows-requires : goal.read_windows-requires
 read_windows-requires c =
-    may_window _ _ _ _ _ _ c.if-used-eq4.true c.requires.0 _ _ c.read_lead-lead.ensures _ c.requires.2
+    let may = may_window _ _ _ _ _ _ c.if-used-eq4.true c.requires.0 _ _ c.read_lead-lead.ensures _ c.requires.2 in
+    record { scannable = may.0; lead_value = may.1 }
 
 pub returns-then-used-eq4 : goal.returns-then-used-eq4
 returns-then-used-eq4 c =
@@ -30,7 +28,8 @@ read_lead-lead-requires-then-used-eq5 c = (may_lead _ _ _ _ _ _ c.if-used-eq5.tr
 
 pub read_windows-requires-then-used-eq5 : goal.read_windows-requires-then-used-eq5
 read_windows-requires-then-used-eq5 c =
-    may_window _ _ _ _ _ _ c.if-used-eq5.true c.requires.0 _ _ c.read_lead-lead-then-used-eq5.ensures _ c.requires.2
+    let may = may_window _ _ _ _ _ _ c.if-used-eq5.true c.requires.0 _ _ c.read_lead-lead-then-used-eq5.ensures _ c.requires.2 in
+    record { scannable = may.0; lead_value = may.1 }
 
 pub returns-then-used-eq5 : goal.returns-then-used-eq5
 returns-then-used-eq5 c =
@@ -46,8 +45,15 @@ slice_bounds-words-end-2 c = simp (length-append) (omega (arith, (rw (long c.arg
 
 pub read_windows-requires-2 : goal.read_windows-requires-2
 read_windows-requires-2 c =
-    rw (let a = c.args in same_part a.used c.read_lead-lead-2.new.1.1.1.0 (post_of 0 (a.used - 0) (replicate {A = ℕ} 16 a.k.top)) ((rw (long c.args.used c.args.k.top c.requires.1) at c.read_lead-lead-2.ensures)).1.long) (may_window _ _ _ _ _ _ refl c.requires.0 _ _ (rw (long c.args.used c.args.k.top c.requires.1) at c.read_lead-lead-2.ensures) _ c.requires.2)
+    let a = c.args in
+    let led = rw (long a.used a.k.top c.requires.1) at c.read_lead-lead-2.ensures in
+    let same = same_part a.used c.read_lead-lead-2.new.words (post_of 0 (a.used - 0) (replicate {A = ℕ} 16 a.k.top)) led.1.long in
+    let may = may_window _ _ _ _ _ _ refl c.requires.0 _ _ led _ c.requires.2 in
+    rw same (record { scannable = may.0; lead_value = may.1 })
 
 pub returns : goal.returns
 returns c =
-    rw (rw (long c.args.used c.args.k.top c.requires.1) at c.read_lead-lead-2.ensures).1.long at (rw (let a = c.args in same_part a.used c.read_lead-lead-2.new.1.1.1.0 (post_of 0 (a.used - 0) (replicate {A = ℕ} 16 a.k.top)) ((rw (long c.args.used c.args.k.top c.requires.1) at c.read_lead-lead-2.ensures)).1.long) at c.read_windows-2.ensures.scans)
+    let a = c.args in
+    let led = rw (long a.used a.k.top c.requires.1) at c.read_lead-lead-2.ensures in
+    let same = same_part a.used c.read_lead-lead-2.new.words (post_of 0 (a.used - 0) (replicate {A = ℕ} 16 a.k.top)) led.1.long in
+    rw led.1.long at (rw same at c.read_windows-2.ensures.scans)

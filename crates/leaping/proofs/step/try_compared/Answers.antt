@@ -1,14 +1,13 @@
 -- `try_compared` meets its contract: a window with a point that is not near is no place, and any other has its sum asked. Assumes nothing.
-use borrow.Author.Rules.{rules}
 use Rattle.fit.proofs.Laws.Answers.{noted_miss}
 use Rattle.leaping.proofs.step.try_compared.Goals as goal
 
 pub returns-then-leading-m : goal.returns-then-leading-m
 returns-then-leading-m c =
     let given = c.requires in
-    rw c.note_none.ensures (noted_miss _ _ _ _ _ (given.s_bound.1.0 c.if-leading-m.true))
+    rw c.note_none.ensures (noted_miss _ _ _ _ _ (given.s_value.0 c.if-leading-m.true))
 
 pub returns : goal.returns
 returns c =
     let given = c.requires in
-    c.try_fitting.ensures.tried (given.s_bound.1.1 c.if-leading-m.false)
+    c.try_fitting.ensures.tried (given.s_value.1 c.if-leading-m.false)
