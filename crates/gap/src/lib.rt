@@ -1,16 +1,6 @@
+// Dropped courses (request #109), begun: the definitions stand in specs/, and the search and the chain are still to be written.
 #![tactic(auto)]
 
 mod answer;
 
-ghost use Rattle.std.specs.Prelude.{◌≡◌};
-
 pub use answer::Chain;
-
-pub fn chain(end: u32) -> Chain
-    ensures { result.refusal ≡ 6 }
-{
-    Chain {
-        refusal: 6,
-        positions: [0; 64],
-    }
-}

@@ -1,7 +1,5 @@
 -- A table of columns, of which a chain is found back: a column for each position, with 64 numbers. Assumes nothing.
-use Prim.Native.Nat.{ℕ, ◌+◌, ◌*◌}
-use mathlib.Core.List.{List}
-use lib.ListN.{get_or}
+use Rattle.std.specs.Prelude.{ℕ, ◌+◌, ◌*◌, List, get_or}
 use Rattle.fit.specs.Refusal.{max_points}
 
 -- what the table holds for point i at position h

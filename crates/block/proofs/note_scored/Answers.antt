@@ -9,9 +9,9 @@ loop-at-init c = let known = c.requires in (known.0, known.1, refl, omega arith,
 
 pub note_sixteen-found-requires : goal.note_sixteen-found-requires
 note_sixteen-found-requires c = let inv = c.loop-at.invariant in record {
-      at_bound = (omega arith, inv.0, inv.1);
-      total_le_tried = (inv.4.order, inv.4.room);
-    }
+  at_bound = (omega arith, inv.0, inv.1);
+  total_le_tried = (inv.4.order, inv.4.room);
+}
 
 pub loop-at-preserved : goal.loop-at-preserved
 loop-at-preserved c =

@@ -35,8 +35,7 @@ additions-requires c =
 pub scan_words-requires : goal.scan_words-requires
 scan_words-requires c =
     let at = underway _ _ _ _ c.checked_search-checked.ensures c.begin-begun.ensures c.if-begun-ne0.false in
-    let known = opened _ _ _ _ _ _ _ at.ok (told_d _ _ _ at.carries c.d-d.ensures) (told_g _ _ _ _ at.carries c.g-g.ensures) c.low_bits-b.ensures in
-    (
+    let known = opened _ _ _ _ _ _ _ at.ok (told_d _ _ _ at.carries c.d-d.ensures) (told_g _ _ _ _ at.carries c.g-g.ensures) c.low_bits-b.ensures in (
       may_scan _ _ _ _ _ _ _ known _ c.lay_out-k.ensures _ refl _ c.additions.ensures.tabled,
       few_words _ _ _ _ _ _ _ known _ c.lay_out-k.ensures _ refl,
       at.none,

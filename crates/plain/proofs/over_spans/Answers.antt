@@ -24,9 +24,9 @@ loop-s-preserved c =
 
 pub one_by_one-requires : goal.one_by_one-requires
 one_by_one-requires c = let inv = c.loop-s.invariant in record {
-      ready = (inv.0, omega arith);
-      total_le_tried = (inv.4.order, inv.4.room);
-    }
+  ready = (inv.0, omega arith);
+  total_le_tried = (inv.4.order, inv.4.room);
+}
 
 pub returns : goal.returns
 returns c =

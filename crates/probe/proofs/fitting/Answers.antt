@@ -22,6 +22,6 @@ loop-k-preserved c =
 
 pub returns : goal.returns
 returns c = record {
-      by_index = (λ fit table worth. all_marks fit _ _ _ (c.loop-k.k - 1) _ (omega arith) (omega arith) (c.loop-k.invariant.2 fit table worth));
-      upper_bound = c.loop-k.invariant.1;
-    }
+  by_index = (λ fit table worth. all_marks fit _ _ _ (c.loop-k.k - 1) _ (omega arith) (omega arith) (c.loop-k.invariant.2 fit table worth));
+  upper_bound = c.loop-k.invariant.1;
+}

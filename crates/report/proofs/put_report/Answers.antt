@@ -6,9 +6,9 @@ use Rattle.report.proofs.put_report.Goals as goal
 
 pub returns-then-front-ne0 : goal.returns-then-front-ne0
 returns-then-front-ne0 c = record {
-      put = refused_report _ _ c.front_of-front.ensures c.if-front-ne0.true c.put_refused.ensures;
-      room = refl;
-    }
+  put = refused_report _ _ c.front_of-front.ensures c.if-front-ne0.true c.put_refused.ensures;
+  room = refl;
+}
 
 pub put_searched-requires : goal.put_searched-requires
 put_searched-requires c =
@@ -16,6 +16,6 @@ put_searched-requires c =
 
 pub returns : goal.returns
 returns c = record {
-      put = accepted_report _ _ c.front_of-front.ensures c.if-front-ne0.false c.points_of-points.ensures c.recording_of-recording.ensures c.put_searched.ensures;
-      room = refl;
-    }
+  put = accepted_report _ _ c.front_of-front.ensures c.if-front-ne0.false c.points_of-points.ensures c.recording_of-recording.ensures c.put_searched.ensures;
+  room = refl;
+}

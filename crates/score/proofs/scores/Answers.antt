@@ -13,9 +13,9 @@ loop-i-init c =
 
 pub add_point-requires : goal.add_point-requires
 add_point-requires c = let inv = c.loop-i.invariant in record {
-      i_lt_max_points = (omega arith, omega arith);
-      entries = inv.3;
-    }
+  i_lt_max_points = (omega arith, omega arith);
+  entries = inv.3;
+}
 
 pub loop-i-preserved : goal.loop-i-preserved
 loop-i-preserved c = let inv = c.loop-i.invariant in (omega arith, inv.1, inv.2, c.add_point.ensures)

@@ -7,9 +7,9 @@ use Rattle.sieve.proofs.sifted.Goals as goal
 
 pub sift-requires : goal.sift-requires
 sift-requires c = let known = c.requires in record {
-      i_bound = (omega arith, known.1, known.2, known.3);
-      entries = marked_all _ _ _ _;
-    }
+  i_bound = (omega arith, known.1, known.2, known.3);
+  entries = marked_all _ _ _ _;
+}
 
 pub returns-then-sift-eq0 : goal.returns-then-sift-eq0
 returns-then-sift-eq0 c =
@@ -25,9 +25,9 @@ loop-i-init c =
 
 pub sift-requires-in-loop-i : goal.sift-requires-in-loop-i
 sift-requires-in-loop-i c = let inv = c.loop-i.invariant in record {
-      i_bound = (omega arith, inv.1, inv.2, inv.3);
-      entries = inv.4;
-    }
+  i_bound = (omega arith, inv.1, inv.2, inv.3);
+  entries = inv.4;
+}
 
 pub returns-then-sift-eq0-2 : goal.returns-then-sift-eq0-2
 returns-then-sift-eq0-2 c =

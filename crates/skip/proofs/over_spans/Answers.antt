@@ -5,7 +5,6 @@ use Rattle.skip.proofs.Laws.Walks.{walk_start, along_probe}
 use Rattle.skip.proofs.Laws.Searching.{pass_along, settle_along, walk_answer}
 use Rattle.skip.proofs.over_spans.Goals as goal
 
-
 pub returns-then-recording-m : goal.returns-then-recording-m
 returns-then-recording-m c = c.point_by_point.ensures
 
@@ -15,7 +14,8 @@ loop-q-init c = let known = c.requires in (
   omega arith,
   omega arith,
   record { marks = c.near_masks-near.ensures; counted = c.mark_counts-counts.ensures },
-  along_same (walk_start _ _ _ (omega arith)) (along_start _ _ _ _ known.1))
+  along_same (walk_start _ _ _ (omega arith)) (along_start _ _ _ _ known.1),
+)
 
 pub note_none-found-requires : goal.note_none-found-requires
 note_none-found-requires c = let inv = c.loop-q.invariant in
@@ -68,9 +68,9 @@ loop-q-preserved c = let passed = c.next_stop-stop.ensures in
 
 pub try_probed-requires : goal.try_probed-requires
 try_probed-requires c = let inv = c.loop-q.invariant in record {
-      ready = (inv.0, omega arith, inv.1);
-      total_le_tried = (inv.4.order, omega (arith, inv.4.room));
-    }
+  ready = (inv.0, omega arith, inv.1);
+  total_le_tried = (inv.4.order, omega (arith, inv.4.room));
+}
 
 pub returns-then-q-recording : goal.returns-then-q-recording
 returns-then-q-recording c = let inv = c.loop-q.invariant in

@@ -12,9 +12,9 @@ loop-at-init c =
 
 pub try_probed-found-requires : goal.try_probed-found-requires
 try_probed-found-requires c = record {
-      ready = (c.loop-at.invariant.0, omega arith, omega arith);
-      total_le_tried = (omega arith, omega arith);
-    }
+  ready = (c.loop-at.invariant.0, omega arith, omega arith);
+  total_le_tried = (omega arith, omega arith);
+}
 
 pub loop-at-preserved : goal.loop-at-preserved
 loop-at-preserved c =
