@@ -1,8 +1,9 @@
 /* feed HOW FILE COMMAND [ARGS..]: runs the command on the bytes of FILE, in a way that a shell has no words for, and ends with its status.
    slow     through a pipe, 5 bytes at a time, each part once the one before it was taken
    stuck    the same pipe, but its reading end never waits, and after the first 5 bytes no more come until the command has ended: its read fails
-   unread   FILE is its standard input, and its standard output a pipe that nobody reads: a write is ended by a signal
-   ignored  the same, with that signal ignored: a write fails
+   unread   FILE is its standard input, and its standard output a pipe that nobody reads: a write fails, or is ended by the signal PIPE
+            where the command does not ignore it
+   ignored  the same, with that signal ignored from the start: a write fails
    A command that does neither take its part nor end within a minute is given the rest. */
 #define _GNU_SOURCE
 #include <fcntl.h>

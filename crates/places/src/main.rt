@@ -1,33 +1,44 @@
 // The program: it reads standard input to its end, and writes the report on it. An input that is too long needs no more than its first
-// 12,001 bytes. Where reading or writing fails, a line on standard error says which; an input that was not read to its end has no report.
+// 12,001 bytes. Where reading or writing fails, a line on standard error says which, and the status is 1; an input that was not read to its end
+// has no report.
 #![tactic(auto)]
 
-mod calls;
+mod failure;
 
-use libc::{STDERR_FILENO, STDIN_FILENO, STDOUT_FILENO};
+ghost use Rattle.std.specs.Prelude.{IfSome, IfErr, OnOk};
+ghost use Rattle.std.specs.Io.KnownBytes.{Appends, Keeps};
+ghost use Rattle.report.specs.Report.{report_of};
+ghost use Rattle.places.specs.Failures.{IsReading};
 
-fn main() {
-    let mut input = [0u8; input::MAX_INPUT + 1];
-    let got = calls::read_all(STDIN_FILENO, &mut input);
-    if got.failed {
-        return complain(b"places: cannot read standard input");
-    }
-    let n = got.n;
-    let mut page = [0u8; report::PAGE];
-    let end = report::put_report(&mut page, &input[..n]);
-    if !calls::write_all(STDOUT_FILENO, &page[..end]) {
-        complain(b"places: cannot write the report");
+use failure::Failure;
+use std::io::{Read, Write};
+use std::process::ExitCode;
+
+fn main(rt: HostRuntime) -> ExitCode {
+    match answer(&mut rt.stdin(), &mut rt.stdout()) {
+        Ok(()) => ExitCode::SUCCESS,
+        Err(failure) => {
+            let _ = eprintln!(rt; "places: {failure}");
+            ExitCode::FAILURE
+        }
     }
 }
 
-// A line with what failed and errno's text. A program has no exit status, so the script that runs it goes by this line: what failed is
-// written even where signals interrupt, which os::fail does not promise. An interruption changes errno, and then no cause is told.
-fn complain(what: &[u8]) {
-    let cause = os::errno();
-    calls::write_all(STDERR_FILENO, what);
-    if os::errno() == cause {
-        os::fail(b"");
-    } else {
-        calls::write_all(STDERR_FILENO, b"\n");
+// Reads an input to its end and writes its report, of which nothing is written where reading fails.
+fn answer<R: Read, W: Write>(reader: &mut R, writer: &mut W) -> Result<(), Failure>
+    ensures report { OnOk result (IfSome (R.remaining reader.old)
+        (λ input. Appends (W.contents writer.old) (W.contents writer.new) (report_of input))) }
+    ensures unread { IfErr result (λ failure. IsReading failure → Keeps (W.contents writer.old) (W.contents writer.new)) }
+{
+    let mut input = [0u8; input::MAX_INPUT + 1];
+    let n = match calls::read_all(reader, &mut input) {
+        Ok(n) => n,
+        Err(cause) => return Err(Failure::Reading(cause)),
+    };
+    let mut page = [0u8; report::PAGE];
+    let end = report::put_report(&mut page, &input[..n]);
+    match writer.write_all(&page[..end]) {
+        Ok(()) => Ok(()),
+        Err(cause) => Err(Failure::Writing(cause)),
     }
 }

@@ -49,12 +49,10 @@ fn line(
     count: usize,
 ) -> usize {
     let mut end = name(page, at, question);
-    let mut k = 0;
-    while k < count {
+    for k in 0..count {
         let answer = ask(question, points, delta, gamma, k);
         let refused = lines::spaced(page, end, answer.refusal as u64);
         end = lines::spaced(page, refused, answer.jump as u64);
-        k += 1;
     }
     page::put_text(page, end, b"\n")
 }

@@ -66,10 +66,8 @@ fn checks(
     end: usize,
 ) -> usize {
     let mut put = at;
-    let mut s = from;
-    while s < end {
+    for s in from..end {
         put = one(page, put, points, delta, gamma, recording, s);
-        s += 1;
     }
     put
 }

@@ -1,0 +1,2 @@
+-- What the contracts of the program cite.
+pub mod Failures
