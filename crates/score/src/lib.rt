@@ -12,26 +12,14 @@ ghost use Rattle.sieve.specs.Sieve.{mark};
 ghost use Rattle.spans.specs.Score.{most_score};
 ghost use Rattle.score.specs.Score.{Scored, score_after};
 
-// a - b, and 0 where that is below 0.
-fn above(a: u16, b: u16) -> u16
-    ensures { result ≡ a - b }
-{
-    if a < b { 0 } else { a - b }
-}
-
-// a + b, and at most 65,535.
-fn plus(a: u16, b: u16) -> u16
-    ensures { result ≡ min (a + b) most_score }
-{
-    if 65535 - b < a { 65535 } else { a + b }
-}
-
 // The score after one reading more, a at a point where readings between `from` and `to` cost nothing.
 fn added(score: u16, from: u16, to: u16, a: u8) -> u16
     ensures { result ≡ min (score + span_cost from to a) most_score }
 {
-    let b = a as u16;
-    plus(plus(score, above(from, b)), above(b, to))
+    let a = u16::from(a);
+    let below = from.saturating_sub(a);
+    let above = a.saturating_sub(to);
+    score.saturating_add(below).saturating_add(above)
 }
 
 // Adds point i to the scores of the 64 windows from s on.
@@ -49,10 +37,8 @@ fn add_point(
 {
     let from = spans[128 + i];
     let to = spans[192 + i];
-    let mut j = 0;
-    while j < 64 {
+    for j in 0..64 {
         scores[j] = added(scores[j], from, to, recording[s + j + i]);
-        j += 1;
     }
 }
 
@@ -60,21 +46,14 @@ fn add_point(
 fn begun(mark: u8) -> u16
     ensures { result ≡ cond (eqb mark 0) most_score 0 }
 {
-    if mark == 0 { 65535 } else { 0 }
+    if mark == 0 { u16::MAX } else { 0 }
 }
 
 // The scores of 64 windows before their first point.
 fn begun_all(marks: &[u8; 64]) -> [u16; 64]
-    requires { length marks.now ≡ 64 }
     ensures { Entries (λ j. cond (eqb (get_or marks.now j 0) 0) most_score 0) 64 result }
 {
-    let mut scores = [0u16; 64];
-    let mut j = 0;
-    while j < 64 {
-        scores[j] = begun(marks[j]);
-        j += 1;
-    }
-    scores
+    marks.map(begun)
 }
 
 // The scores of the 64 windows from s on, with a mark for each that fits. What is near is told by the marks and not by gamma, so they serve every gamma.
@@ -90,10 +69,8 @@ pub fn scores(
     ensures { Scored (rule_in spans.now) m recording.now s result }
 {
     let mut scores = begun_all(marks);
-    let mut i = 0;
-    while i < m {
+    for i in 0..m {
         add_point(&mut scores, spans, m, recording, s, i);
-        i += 1;
     }
     scores
 }
