@@ -10,30 +10,16 @@ ghost use Rattle.block.specs.Block.{told_by, NoneBelow};
 
 use fit::Search;
 
-fn wide(score: u16) -> u32
-    ensures { result ≡ score }
-{
-    score as u32
-}
-
-fn smaller(a: u16, b: u16) -> u16
-    ensures { result ≡ min a b }
-{
-    if a < b { a } else { b }
-}
-
 // A score that none of the 16 from `at` on is below.
 fn least_of(scores: &[u16; 64], at: usize) -> u16
-    requires { (at + 16 ≤ 64) × (length scores.now ≡ 64) }
+    requires { at + 16 ≤ 64 }
     ensures { NoneBelow scores.now at 16 result }
 {
-    let mut least = 65535;
-    let mut j = 0;
-    while j < 16 {
-        least = smaller(least, scores[at + j]);
-        j += 1;
-    }
-    least
+    scores[at..at + 16]
+        .iter()
+        .copied()
+        .min()
+        .unwrap_or(u16::MAX)
 }
 
 // Notes the windows from s + at on, 16 of them, by their scores.
@@ -46,20 +32,18 @@ fn note_sixteen(
     at: usize,
     before: Search,
 ) -> Search
-    requires at_bound { (at + 16 ≤ 64) × (length scores.now ≡ 64) × (s + 64 < 2 ^ 32) }
+    requires at_bound { (at + 16 ≤ 64) × (s + 64 < 2 ^ 32) }
     requires total_le_tried { (before.total ≤ before.tried) × (before.tried ≤ s + at) }
     ensures { TriedAll (told_by scores.now s gamma) (run (s + at) 16) before
         (lent list.old sums.old) result (lent list.new sums.new) }
 {
-    if gamma < wide(least_of(scores, at)) {
+    if gamma < u32::from(least_of(scores, at)) {
         return window::note_none(16, before);
     }
     let mut found = before;
-    let mut j = at;
-    while j < at + 16 {
+    for j in at..at + 16 {
         let score = scores[j];
-        found = window::note(list, sums, s + j, wide(score) <= gamma, score, found);
-        j += 1;
+        found = window::note(list, sums, s + j, u32::from(score) <= gamma, score, found);
     }
     found
 }
@@ -73,15 +57,13 @@ fn note_scored(
     scores: &[u16; 64],
     before: Search,
 ) -> Search
-    requires { (length scores.now ≡ 64) × (s + 64 < 2 ^ 32) × (before.total ≤ before.tried) × (before.tried ≤ s) }
+    requires { (s + 64 < 2 ^ 32) × (before.total ≤ before.tried) × (before.tried ≤ s) }
     ensures { TriedAll (told_by scores.now s gamma) (run s 64) before
         (lent list.old sums.old) result (lent list.new sums.new) }
 {
     let mut found = before;
-    let mut at = 0;
-    while at < 64 {
-        found = note_sixteen(gamma, list, sums, s, scores, at, found);
-        at += 16;
+    for k in 0..4 {
+        found = note_sixteen(gamma, list, sums, s, scores, 16 * k, found);
     }
     found
 }
@@ -102,10 +84,9 @@ pub fn try_block(
     ensures { TriedAll (sought_by (rule_in spans.now) m gamma recording.now) (run s 64) before
         (lent list.old sums.old) result (lent list.new sums.new) }
 {
-    let fitting = sieve::sifted(spans, m, recording, s);
-    if fitting.any {
-        let scores = score::scores(spans, m, recording, s, &fitting.marks);
-        return note_scored(gamma, list, sums, s, &scores, before);
-    }
-    window::note_none(64, before)
+    let Some(marks) = sieve::sifted(spans, m, recording, s) else {
+        return window::note_none(64, before);
+    };
+    let scores = score::scores(spans, m, recording, s, &marks);
+    note_scored(gamma, list, sums, s, &scores, before)
 }

@@ -53,7 +53,11 @@ fn begun(mark: u8) -> u16
 fn begun_all(marks: &[u8; 64]) -> [u16; 64]
     ensures { Entries (λ j. cond (eqb (get_or marks.now j 0) 0) most_score 0) 64 result }
 {
-    marks.map(begun)
+    let mut scores = [0; 64];
+    for (j, mark) in marks.iter().enumerate() {
+        scores[j] = begun(*mark);
+    }
+    scores
 }
 
 // The scores of the 64 windows from s on, with a mark for each that fits. What is near is told by the marks and not by gamma, so they serve every gamma.

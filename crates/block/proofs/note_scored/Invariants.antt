@@ -12,6 +12,3 @@ abbrev pub invariant-loop-at : goal.invariant-loop-at
 invariant-loop-at l =
     (length l.scores ≡ 64) × (l.s + 64 < 2 ^ 32) × (l.at % 16 ≡ 0) × (l.at ≤ 64)
     × Trying (told_by l.scores l.s l.gamma) (run l.s 64) (run (l.s + l.at) (l.s + 64 - (l.s + l.at))) (l.s + l.at) (lent l.initial.list l.initial.sums) (lent l.list l.sums) l.initial.found l.found
-
-abbrev pub decreases-loop-at : goal.decreases-loop-at
-decreases-loop-at l = 64 - l.at

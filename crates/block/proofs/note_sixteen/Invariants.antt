@@ -12,6 +12,3 @@ abbrev pub invariant-loop-j : goal.invariant-loop-j
 invariant-loop-j l =
     (l.at + 16 ≤ 64) × (length l.scores ≡ 64) × (l.s + 64 < 2 ^ 32) × (l.j ≤ l.at + 16)
     × Trying (told_by l.scores l.s l.gamma) (run (l.s + l.at) 16) (run (l.s + l.j) (l.s + l.at + 16 - (l.s + l.j))) (l.s + l.j) (lent l.initial.list l.initial.sums) (lent l.list l.sums) l.initial.found l.found
-
-abbrev pub decreases-loop-j : goal.decreases-loop-j
-decreases-loop-j l = l.at + 16 - l.j
