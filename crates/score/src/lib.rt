@@ -37,8 +37,8 @@ fn add_point(
 {
     let from = spans[128 + i];
     let to = spans[192 + i];
-    for j in 0..64 {
-        scores[j] = added(scores[j], from, to, recording[s + j + i]);
+    for (j, score) in scores.iter_mut().enumerate() {
+        *score = added(*score, from, to, recording[s + j + i]);
     }
 }
 

@@ -106,16 +106,15 @@ fn sift(
     let mid = m / 3 + i;
     let end = m - 1 - i;
     let mut most = 0u8;
-    for j in 0..64 {
+    for (j, mark) in marks.iter_mut().enumerate() {
         let at = s + j;
-        let left = pass.kept(
-            marks[j],
+        *mark = pass.kept(
+            *mark,
             recording[at + i],
             recording[at + mid],
             recording[at + end],
         );
-        marks[j] = left;
-        most = most.max(left);
+        most = most.max(*mark);
     }
     most != 0
 }

@@ -24,7 +24,7 @@ loop-j-preserved c =
     let inv = c.loop-j.invariant in
     sifting_next _ _ _ _ _ _ c.loop-j-test.true inv
     (passes_more (rule_in given.spans.now).fit given.m given.recording.now t given.i _ _ (inv.marked.left _ (omega arith) c.loop-j-test.true)
-    (c.kept-left.ensures
+    (c.kept.ensures
     ∙ ap (λ (b : Bool). cond b (get_or c.loop-j.marks c.loop-j.j 0) 0)
     (c.in-Some.ensures _ _ _ (omega (arith, c.type_inv.recording (t + given.i)), omega (arith, c.type_inv.recording (t + (given.m / 3 + given.i))), omega (arith, c.type_inv.recording (t + (given.m - 1 - given.i)))))))
     c.max-most.ensures
