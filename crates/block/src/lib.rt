@@ -2,24 +2,19 @@
 // window that fits, and are only counted. A block leaves just what its windows leave when they are tried one by one.
 #![tactic(auto)]
 
-ghost use Rattle.std.specs.Prelude.{◌≡◌, ◌+◌, ◌≤◌, ◌<◌, ◌^◌, min, length};
+ghost use Rattle.std.specs.Prelude.{◌≡◌, ◌+◌, ◌≤◌, ◌<◌, ◌^◌, length, EachIndex, slice_index};
 ghost use Rattle.fit.specs.Spans.{rule_in, Ready};
 ghost use Rattle.fit.specs.Answer.{sought_by, lent};
 ghost use Rattle.fit.specs.Trying.{TriedAll, run};
-ghost use Rattle.block.specs.Block.{told_by, NoneBelow};
+ghost use Rattle.block.specs.Block.{told_by};
 
 use fit::Search;
 
-// A score that none of the 16 from `at` on is below.
-fn least_of(scores: &[u16; 64], at: usize) -> u16
-    requires { at + 16 ≤ 64 }
-    ensures { NoneBelow scores.now at 16 result }
+// The least of some scores; where there are none, the greatest that there can be.
+fn least_of(scores: &[u16]) -> u16
+    ensures { EachIndex scores.now (λ k. result ≤ slice_index scores.now k) }
 {
-    scores[at..at + 16]
-        .iter()
-        .copied()
-        .min()
-        .unwrap_or(u16::MAX)
+    scores.iter().copied().min().unwrap_or(u16::MAX)
 }
 
 // Notes the windows from s + at on, 16 of them, by their scores.
@@ -37,7 +32,7 @@ fn note_sixteen(
     ensures { TriedAll (told_by scores.now s gamma) (run (s + at) 16) before
         (lent list.old sums.old) result (lent list.new sums.new) }
 {
-    if gamma < u32::from(least_of(scores, at)) {
+    if gamma < u32::from(least_of(&scores[at..at + 16])) {
         return window::note_none(16, before);
     }
     let mut found = before;

@@ -1,4 +1,0 @@
-use Rattle.block.proofs.least_of.Goals as goal
-
-pub returns : goal.returns
-returns c = ?
