@@ -52,12 +52,11 @@ pub fn over_spans(
 {
     let count = window::count_windows(m, recording);
     let mut found = start;
-    let mut s = 0;
-    while s + 64 <= count {
-        found = block::try_block(spans, m, gamma, recording, list, sums, s, found);
-        s += 64;
+    let blocks = count / 64;
+    for b in 0..blocks {
+        found = block::try_block(spans, m, gamma, recording, list, sums, 64 * b, found);
     }
-    one_by_one(spans, m, gamma, recording, list, sums, s, found)
+    one_by_one(spans, m, gamma, recording, list, sums, 64 * blocks, found)
 }
 
 // Tries the windows from the one at `from` on. A function of its own, so that nothing but the block stands in the loop above: what is the same for every
@@ -80,10 +79,8 @@ fn one_by_one(
 {
     let count = window::count_windows(m, recording);
     let mut found = before;
-    let mut s = from;
-    while s < count {
+    for s in from..count {
         found = window::try_at(spans, m, gamma, recording, list, sums, s, found);
-        s += 1;
     }
     found
 }
