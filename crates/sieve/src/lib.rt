@@ -11,6 +11,8 @@ ghost use Rattle.fit.specs.Refusal.{max_points, max_readings};
 ghost use Rattle.fit.specs.Spans.{span_fits, rule_in};
 ghost use Rattle.sieve.specs.Sieve.{mark, marks_of, some, pass, passes, is_within};
 
+use spans::Spans;
+
 // Readings as bytes: the least of them, and how many more follow it.
 #[derive(Clone, Copy)]
 struct Range {
@@ -35,11 +37,11 @@ impl Range {
     }
 
     // The readings that suit point i, if there are any.
-    fn at(spans: &[u16; 256], i: usize) -> Option<Self>
+    fn at(spans: &Spans, i: usize) -> Option<Self>
         requires { i < max_points }
-        ensures { (a : ℕ) → a ≤ 255 → MatchOption result ((rule_in spans.now).fit i a ≡ false) (λ range. is_within range.least range.more a ≡ (rule_in spans.now).fit i a) }
+        ensures { (a : ℕ) → a ≤ 255 → MatchOption result ((rule_in spans.now.rows).fit i a ≡ false) (λ range. is_within range.least range.more a ≡ (rule_in spans.now.rows).fit i a) }
     {
-        Range::of(spans[i], spans[64 + i])
+        Range::of(spans.rows[i], spans.rows[64 + i])
     }
 
     // Whether a is in the range.
@@ -61,15 +63,15 @@ struct Pass {
 
 impl Pass {
     // Pass i, if each of its points is suited by any reading.
-    fn at(spans: &[u16; 256], m: usize, i: usize) -> Option<Self>
-        requires { (3 * i < m) × (m ≤ max_points) }
-        ensures { (a b c : ℕ) → (a ≤ 255) × (b ≤ 255) × (c ≤ 255) → MatchOption result (pass (rule_in spans.now).fit m i a b c ≡ false)
-            (λ p. (is_within p.front.least p.front.more a && (is_within p.middle.least p.middle.more b && is_within p.back.least p.back.more c)) ≡ pass (rule_in spans.now).fit m i a b c) }
+    fn at(spans: &Spans, i: usize) -> Option<Self>
+        requires { 3 * i < spans.now.m }
+        ensures { (a b c : ℕ) → (a ≤ 255) × (b ≤ 255) × (c ≤ 255) → MatchOption result (pass (rule_in spans.now.rows).fit spans.now.m i a b c ≡ false)
+            (λ p. (is_within p.front.least p.front.more a && (is_within p.middle.least p.middle.more b && is_within p.back.least p.back.more c)) ≡ pass (rule_in spans.now.rows).fit spans.now.m i a b c) }
     {
         Some(Pass {
             front: Range::at(spans, i)?,
-            middle: Range::at(spans, m / 3 + i)?,
-            back: Range::at(spans, m - 1 - i)?,
+            middle: Range::at(spans, spans.m / 3 + i)?,
+            back: Range::at(spans, spans.m - 1 - i)?,
         })
     }
 
@@ -88,23 +90,22 @@ impl Pass {
 // Holds the 64 windows from s on to the three points of pass i. Answers whether any is left.
 fn sift(
     marks: &mut [u8; 64],
-    spans: &[u16; 256],
-    m: usize,
+    spans: &Spans,
     recording: &[u8],
     s: usize,
     i: usize,
 ) -> bool
-    requires i_bound { (3 * i < m) × (m ≤ max_points) × (s + 63 + m ≤ length recording.now) × (length recording.now ≤ max_readings) }
-    requires entries { Entries (λ j. mark (passes (rule_in spans.now).fit m recording.now (s + j) i)) 64 marks.old }
-    ensures { Entries (λ j. mark (passes (rule_in spans.now).fit m recording.now (s + j) (i + 1))) 64 marks.new
-        × (result ≡ some (λ j. passes (rule_in spans.now).fit m recording.now (s + j) (i + 1)) 64) }
+    requires i_bound { (3 * i < spans.now.m) × (s + 63 + spans.now.m ≤ length recording.now) × (length recording.now ≤ max_readings) }
+    requires entries { Entries (λ j. mark (passes (rule_in spans.now.rows).fit spans.now.m recording.now (s + j) i)) 64 marks.old }
+    ensures { Entries (λ j. mark (passes (rule_in spans.now.rows).fit spans.now.m recording.now (s + j) (i + 1))) 64 marks.new
+        × (result ≡ some (λ j. passes (rule_in spans.now.rows).fit spans.now.m recording.now (s + j) (i + 1)) 64) }
 {
-    let Some(pass) = Pass::at(spans, m, i) else {
+    let Some(pass) = Pass::at(spans, i) else {
         *marks = [0; 64];
         return false;
     };
-    let mid = m / 3 + i;
-    let end = m - 1 - i;
+    let mid = spans.m / 3 + i;
+    let end = spans.m - 1 - i;
     let mut most = 0u8;
     for (j, mark) in marks.iter_mut().enumerate() {
         let at = s + j;
@@ -120,18 +121,18 @@ fn sift(
 }
 
 // Which of the 64 windows from s on fit: a mark for each, 1 or 0, if any does.
-pub fn sifted(spans: &[u16; 256], m: usize, recording: &[u8], s: usize) -> Option<[u8; 64]>
-    requires { (1 ≤ m) × (m ≤ max_points) × (s + 63 + m ≤ length recording.now) × (length recording.now ≤ max_readings) }
-    ensures { Entries (λ j. mark (all_fit (rule_in spans.now).fit recording.now (s + j) m)) 64 (marks_of result)
-        × (is_some result ≡ some (λ j. all_fit (rule_in spans.now).fit recording.now (s + j) m) 64) }
+pub fn sifted(spans: &Spans, recording: &[u8], s: usize) -> Option<[u8; 64]>
+    requires { (1 ≤ spans.now.m) × (s + 63 + spans.now.m ≤ length recording.now) × (length recording.now ≤ max_readings) }
+    ensures { Entries (λ j. mark (all_fit (rule_in spans.now.rows).fit recording.now (s + j) spans.now.m)) 64 (marks_of result)
+        × (is_some result ≡ some (λ j. all_fit (rule_in spans.now.rows).fit recording.now (s + j) spans.now.m) 64) }
 {
     let mut marks = [1u8; 64];
     // the first pass stands apart, because its points are the same for every block: what it needs of them is read once a search
-    if !sift(&mut marks, spans, m, recording, s, 0) {
+    if !sift(&mut marks, spans, recording, s, 0) {
         return None;
     }
-    for i in 1..m.div_ceil(3) {
-        if !sift(&mut marks, spans, m, recording, s, i) {
+    for i in 1..spans.m.div_ceil(3) {
+        if !sift(&mut marks, spans, recording, s, i) {
             return None;
         }
     }

@@ -11,8 +11,8 @@ use Rattle.sieve.proofs.sift.Goals as goal
 pub returns-in_default : goal.returns-in_default
 returns-in_default c =
     let given = c.args in
-    none_pass (rule_in given.spans.now).fit given.m given.recording.now given.s given.i
-    (λ t. c.in_default.ensures _ _ _ (omega (arith, c.type_inv.recording (t + given.i)), omega (arith, c.type_inv.recording (t + (given.m / 3 + given.i))), omega (arith, c.type_inv.recording (t + (given.m - 1 - given.i)))))
+    none_pass (rule_in given.spans.now.rows).fit given.spans.now.m given.recording.now given.s given.i
+    (λ t. c.in_default.ensures _ _ _ (omega (arith, c.type_inv.recording (t + given.i)), omega (arith, c.type_inv.recording (t + (given.spans.now.m / 3 + given.i))), omega (arith, c.type_inv.recording (t + (given.spans.now.m - 1 - given.i)))))
 
 pub loop-j-init : goal.loop-j-init
 loop-j-init c = sifting_start _ _ c.requires.entries
@@ -23,10 +23,10 @@ loop-j-preserved c =
     let t = given.s + c.loop-j.j in
     let inv = c.loop-j.invariant in
     sifting_next _ _ _ _ _ _ c.loop-j-test.true inv
-    (passes_more (rule_in given.spans.now).fit given.m given.recording.now t given.i _ _ (inv.marked.left _ (omega arith) c.loop-j-test.true)
+    (passes_more (rule_in given.spans.now.rows).fit given.spans.now.m given.recording.now t given.i _ _ (inv.marked.left _ (omega arith) c.loop-j-test.true)
     (c.kept.ensures
     ∙ ap (λ (b : Bool). cond b (get_or c.loop-j.marks c.loop-j.j 0) 0)
-    (c.in-Some.ensures _ _ _ (omega (arith, c.type_inv.recording (t + given.i)), omega (arith, c.type_inv.recording (t + (given.m / 3 + given.i))), omega (arith, c.type_inv.recording (t + (given.m - 1 - given.i)))))))
+    (c.in-Some.ensures _ _ _ (omega (arith, c.type_inv.recording (t + given.i)), omega (arith, c.type_inv.recording (t + (given.spans.now.m / 3 + given.i))), omega (arith, c.type_inv.recording (t + (given.spans.now.m - 1 - given.i)))))))
     c.max-most.ensures
 
 pub returns : goal.returns

@@ -7,4 +7,4 @@ use Rattle.sieve.proofs.sift.Given as goal
 
 abbrev pub invariant-loop-j : goal.invariant-loop-j
 invariant-loop-j l =
-    Sifting (λ k. passes (rule_in l.spans).fit l.m l.recording (l.s + k) l.i) (λ k. passes (rule_in l.spans).fit l.m l.recording (l.s + k) (l.i + 1)) l.marks l.most l.j
+    Sifting (λ k. passes (rule_in l.spans.rows).fit l.spans.m l.recording (l.s + k) l.i) (λ k. passes (rule_in l.spans.rows).fit l.spans.m l.recording (l.s + k) (l.i + 1)) l.marks l.most l.j

@@ -9,5 +9,5 @@ use Rattle.sieve.proofs.sifted.Given as goal
 
 abbrev pub invariant-loop-i : goal.invariant-loop-i
 invariant-loop-i l =
-    Entries (λ j. mark (passes (rule_in l.spans).fit l.m l.recording (l.s + j) l.i)) 64 l.marks
-    × (some (λ j. passes (rule_in l.spans).fit l.m l.recording (l.s + j) l.i) 64 ≡ true)
+    Entries (λ j. mark (passes (rule_in l.spans.rows).fit l.spans.m l.recording (l.s + j) l.i)) 64 l.marks
+    × (some (λ j. passes (rule_in l.spans.rows).fit l.spans.m l.recording (l.s + j) l.i) 64 ≡ true)
