@@ -8,7 +8,8 @@ ghost use Rattle.fit.specs.Answer.{sought_by, lent};
 ghost use Rattle.fit.specs.Trying.{TriedAll, run};
 ghost use Rattle.block.specs.Block.{told_by};
 
-use fit::Search;
+use fit::Found;
+use spans::Spans;
 
 // The least of some scores; where there are none, the greatest that there can be.
 fn least_of(scores: &[u16]) -> u16
@@ -25,8 +26,8 @@ fn note_sixteen(
     s: usize,
     scores: &[u16; 64],
     at: usize,
-    before: Search,
-) -> Search
+    before: Found,
+) -> Found
     requires at_bound { (at + 16 ≤ 64) × (s + 64 < 2 ^ 32) }
     requires total_le_tried { (before.total ≤ before.tried) × (before.tried ≤ s + at) }
     ensures { TriedAll (told_by scores.now s gamma) (run (s + at) 16) before
@@ -37,8 +38,7 @@ fn note_sixteen(
     }
     let mut found = before;
     for j in at..at + 16 {
-        let score = scores[j];
-        found = window::note(list, sums, s + j, u32::from(score) <= gamma, score, found);
+        found = window::note_score(gamma, list, sums, s + j, scores[j], found);
     }
     found
 }
@@ -50,8 +50,8 @@ fn note_scored(
     sums: &mut [u16],
     s: usize,
     scores: &[u16; 64],
-    before: Search,
-) -> Search
+    before: Found,
+) -> Found
     requires { (s + 64 < 2 ^ 32) × (before.total ≤ before.tried) × (before.tried ≤ s) }
     ensures { TriedAll (told_by scores.now s gamma) (run s 64) before
         (lent list.old sums.old) result (lent list.new sums.new) }
@@ -65,23 +65,22 @@ fn note_scored(
 
 // Tries the 64 windows from s on.
 pub fn try_block(
-    spans: &[u16; 256],
-    m: usize,
+    spans: &Spans,
     gamma: u32,
     recording: &[u8],
     list: &mut [u32],
     sums: &mut [u16],
     s: usize,
-    before: Search,
-) -> Search
-    requires ready { Ready m gamma (length recording.now) × (s + 63 + m ≤ length recording.now) }
+    before: Found,
+) -> Found
+    requires ready { Ready spans.now.m gamma (length recording.now) × (s + 63 + spans.now.m ≤ length recording.now) }
     requires total_le_tried { (before.total ≤ before.tried) × (before.tried ≤ s) }
-    ensures { TriedAll (sought_by (rule_in spans.now) m gamma recording.now) (run s 64) before
+    ensures { TriedAll (sought_by (rule_in spans.now.rows) spans.now.m gamma recording.now) (run s 64) before
         (lent list.old sums.old) result (lent list.new sums.new) }
 {
-    let Some(marks) = sieve::sifted(spans, m, recording, s) else {
+    let Some(marks) = sieve::sifted(spans, recording, s) else {
         return window::note_none(64, before);
     };
-    let scores = score::scores(spans, m, recording, s, &marks);
+    let scores = score::scores(spans, recording, s, &marks);
     note_scored(gamma, list, sums, s, &scores, before)
 }

@@ -12,6 +12,8 @@ ghost use Rattle.sieve.specs.Sieve.{mark};
 ghost use Rattle.spans.specs.Score.{most_score};
 ghost use Rattle.score.specs.Score.{Scored, score_after};
 
+use spans::Spans;
+
 // The score after one reading more, a at a point where readings between `from` and `to` cost nothing.
 fn added(score: u16, from: u16, to: u16, a: u8) -> u16
     ensures { result ≡ min (score + span_cost from to a) most_score }
@@ -23,20 +25,13 @@ fn added(score: u16, from: u16, to: u16, a: u8) -> u16
 }
 
 // Adds point i to the scores of the 64 windows from s on.
-fn add_point(
-    scores: &mut [u16; 64],
-    spans: &[u16; 256],
-    m: usize,
-    recording: &[u8],
-    s: usize,
-    i: usize,
-)
+fn add_point(scores: &mut [u16; 64], spans: &Spans, recording: &[u8], s: usize, i: usize)
     requires i_lt_max_points { (i < max_points) × (s + 63 + i < length recording.now) }
-    requires entries { Entries (λ j. score_after (rule_in spans.now) m recording.now i (s + j)) 64 scores.old }
-    ensures { Entries (λ j. score_after (rule_in spans.now) m recording.now (i + 1) (s + j)) 64 scores.new }
+    requires entries { Entries (λ j. score_after (rule_in spans.now.rows) spans.now.m recording.now i (s + j)) 64 scores.old }
+    ensures { Entries (λ j. score_after (rule_in spans.now.rows) spans.now.m recording.now (i + 1) (s + j)) 64 scores.new }
 {
-    let from = spans[128 + i];
-    let to = spans[192 + i];
+    let from = spans.rows[128 + i];
+    let to = spans.rows[192 + i];
     for (j, score) in scores.iter_mut().enumerate() {
         *score = added(*score, from, to, recording[s + j + i]);
     }
@@ -61,20 +56,14 @@ fn begun_all(marks: &[u8; 64]) -> [u16; 64]
 }
 
 // The scores of the 64 windows from s on, with a mark for each that fits. What is near is told by the marks and not by gamma, so they serve every gamma.
-pub fn scores(
-    spans: &[u16; 256],
-    m: usize,
-    recording: &[u8],
-    s: usize,
-    marks: &[u8; 64],
-) -> [u16; 64]
-    requires m_le_max_points { (m ≤ max_points) × (s + 63 + m ≤ length recording.now) }
-    requires entries { Entries (λ j. mark (all_fit (rule_in spans.now).fit recording.now (s + j) m)) 64 marks.now }
-    ensures { Scored (rule_in spans.now) m recording.now s result }
+pub fn scores(spans: &Spans, recording: &[u8], s: usize, marks: &[u8; 64]) -> [u16; 64]
+    requires inside { s + 63 + spans.now.m ≤ length recording.now }
+    requires entries { Entries (λ j. mark (all_fit (rule_in spans.now.rows).fit recording.now (s + j) spans.now.m)) 64 marks.now }
+    ensures { Scored (rule_in spans.now.rows) spans.now.m recording.now s result }
 {
     let mut scores = begun_all(marks);
-    for i in 0..m {
-        add_point(&mut scores, spans, m, recording, s, i);
+    for i in 0..spans.m {
+        add_point(&mut scores, spans, recording, s, i);
     }
     scores
 }

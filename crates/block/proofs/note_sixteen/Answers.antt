@@ -20,8 +20,8 @@ pub loop-j-preserved : goal.loop-j-preserved
 loop-j-preserved c =
     let given = c.args in
     running_one _ _ _ c.loop-j.invariant _ (omega arith) (omega arith)
-    (noted_as _ _ _ _ _ _ _ (told_at given.scores.now given.s _ c.loop-j.j _ c.from-in-loop-j.ensures)
-    (λ _. told_sum_at given.scores.now given.s given.gamma c.loop-j.j) c.note-found.ensures)
+    (noted_as _ _ _ _ _ _ _ (told_at given.scores.now given.s _ c.loop-j.j _ refl)
+    (λ _. told_sum_at given.scores.now given.s given.gamma c.loop-j.j) c.note_score-found.ensures)
 
 pub returns : goal.returns
 returns c = running_end _ _ _ c.loop-j.invariant (omega arith)

@@ -7,4 +7,4 @@ use Rattle.score.proofs.add_point.Given as goal
 
 abbrev pub invariant-loop-j : goal.invariant-loop-j
 invariant-loop-j l =
-    Rewritten (λ k. score_after (rule_in l.spans) l.m l.recording l.i (l.s + k)) (λ k. score_after (rule_in l.spans) l.m l.recording (l.i + 1) (l.s + k)) 64 l.scores l.j
+    Rewritten (λ k. score_after (rule_in l.spans.rows) l.spans.m l.recording l.i (l.s + k)) (λ k. score_after (rule_in l.spans.rows) l.spans.m l.recording (l.i + 1) (l.s + k)) 64 l.scores l.j

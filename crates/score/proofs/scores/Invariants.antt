@@ -6,4 +6,4 @@ use Rattle.score.specs.Score.{score_after}
 use Rattle.score.proofs.scores.Given as goal
 
 abbrev pub invariant-loop-i : goal.invariant-loop-i
-invariant-loop-i l = Entries (λ j. score_after (rule_in l.spans) l.m l.recording l.i (l.s + j)) 64 l.scores
+invariant-loop-i l = Entries (λ j. score_after (rule_in l.spans.rows) l.spans.m l.recording l.i (l.s + j)) 64 l.scores
