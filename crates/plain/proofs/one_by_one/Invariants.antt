@@ -10,5 +10,5 @@ use Rattle.plain.proofs.one_by_one.Given as goal
 
 abbrev pub invariant-loop-s : goal.invariant-loop-s
 invariant-loop-s l =
-    Trying (sought_by (rule_in l.spans) l.m l.gamma l.recording) (run l.from (windows l.m (length l.recording) - l.from)) (run l.s (l.count - l.s)) l.s (lent l.initial.list l.initial.sums) (lent l.list l.sums)
+    Trying (sought_by (rule_in l.spans.rows) l.spans.m l.gamma l.recording) (run l.from (windows l.spans.m (length l.recording) - l.from)) (run l.s (l.count - l.s)) l.s (lent l.initial.list l.initial.sums) (lent l.list l.sums)
     l.initial.found l.found

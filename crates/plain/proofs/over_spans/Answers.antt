@@ -2,17 +2,18 @@
 use mathlib.Core.Path.{◌≡◌}
 use Prim.Native.Nat.{◌/◌}
 use native.Mathlib.Omega.{arith}
+use Rattle.std.proofs.Common.{rules}
 use Rattle.fit.proofs.Laws.Rules.{by_below}
 use Rattle.fit.proofs.Laws.Runs.{running_begun, running_all, every_tried}
 use Rattle.plain.proofs.over_spans.Goals as goal
 
 pub loop-b-init : goal.loop-b-init
-loop-b-init c = running_begun _ _ c.requires.1
+loop-b-init c = running_begun _ _ (search rules)
 
 pub try_block-found-requires : goal.try_block-found-requires
 try_block-found-requires c =
     let inv = c.loop-b.invariant in record {
-      ready = (c.requires.0, omega arith);
+      ready = (c.requires, omega arith);
       total_le_tried = (inv.order, inv.room);
     }
 
@@ -24,7 +25,7 @@ one_by_one-requires c =
     let counted = c.count_windows-count.ensures in
     let all : c.loop-b.b ≡ c.count_windows-count.result / 64 = omega arith in
     let inv = rw all at c.loop-b.invariant in record {
-      ready = (c.requires.0, omega (arith, counted));
+      ready = (c.requires, omega (arith, counted));
       total_le_tried = (inv.order, inv.room);
     }
 
@@ -32,4 +33,4 @@ pub returns : goal.returns
 returns c =
     let all : c.loop-b.b ≡ c.count_windows-count.result / 64 = omega arith in
     let inv = rw all at c.loop-b.invariant in
-    every_tried _ (λ s p. by_below _ _ _ _ s p) c.requires.1 (inv.rest _ _ c.one_by_one.ensures)
+    every_tried _ (λ s p. by_below _ _ _ _ s p) (search rules) (inv.rest _ _ c.one_by_one.ensures)

@@ -10,5 +10,5 @@ use Rattle.plain.proofs.over_spans.Given as goal
 
 abbrev pub invariant-loop-b : goal.invariant-loop-b
 invariant-loop-b l =
-    Trying (sought_by (rule_in l.spans) l.m l.gamma l.recording) (run 0 (windows l.m (length l.recording))) (run (64 * l.b) (windows l.m (length l.recording) - 64 * l.b)) (64 * l.b) (lent l.initial.list l.initial.sums)
+    Trying (sought_by (rule_in l.spans.rows) l.spans.m l.gamma l.recording) (run 0 (windows l.spans.m (length l.recording))) (run (64 * l.b) (windows l.spans.m (length l.recording) - 64 * l.b)) (64 * l.b) (lent l.initial.list l.initial.sums)
     (lent l.list l.sums) l.initial.found l.found
