@@ -12,24 +12,24 @@ ghost use Rattle.marks.specs.Marks.{word_bits, readings, Marks, MarkTable, Highe
 
 use spans::Spans;
 
-// The two tables of a search by m points: for each reading the points that it suits, as a word, and how many these are.
+// The two tables of a search by m points: for each reading the points that it is near, as a word that marks them, and how many these are.
 #[derive(Clone, Copy)]
-pub struct Tables {
+pub struct NearPoints {
     pub masks: [u64; 256],
     pub counts: [u8; 256],
     pub m: usize,
     ghost few: { m ≤ max_points },
 }
 
-impl Tables {
-    // The tables of a profile that is compiled to spans.
+impl NearPoints {
+    // Those of a profile that is compiled to spans.
     pub fn of(spans: &Spans) -> Self
         ensures masks { MarkTable spans.now.m (rule_in spans.now.rows).fit result.masks }
         ensures counts { Entries (λ (a : ℕ). ones (get_or result.masks a 0)) readings result.counts }
         ensures points { result.m ≡ spans.now.m }
     {
         let masks = near_masks(spans);
-        Tables {
+        NearPoints {
             masks,
             counts: mark_counts(&masks),
             m: spans.m,
