@@ -1,7 +1,5 @@
 -- `block::note_sixteen` meets its contract: at once where the least score is above gamma, and else one by one. Assumes nothing.
-use mathlib.Core.Path.{◌≡◌}
-use Prim.Native.Nat.{◌+◌, ◌-◌, ◌≤◌, ◌<◌, ◌^◌}
-use lib.ListN.{length}
+use Prim.Native.Nat.{◌+◌, ◌-◌}
 use Rattle.fit.specs.Answer.{lent}
 use Rattle.fit.specs.Trying.{run}
 use Rattle.fit.proofs.Laws.Tryings.{Trying}
@@ -10,8 +8,4 @@ use Rattle.block.proofs.note_sixteen.Given as goal
 
 abbrev pub invariant-loop-j : goal.invariant-loop-j
 invariant-loop-j l =
-    (l.at + 16 ≤ 64) × (length l.scores ≡ 64) × (l.s + 64 < 2 ^ 32) × (l.j ≤ l.at + 16)
-    × Trying (told_by l.scores l.s l.gamma) (run (l.s + l.at) 16) (run (l.s + l.j) (l.s + l.at + 16 - (l.s + l.j))) (l.s + l.j) (lent l.initial.list l.initial.sums) (lent l.list l.sums) l.initial.found l.found
-
-abbrev pub decreases-loop-j : goal.decreases-loop-j
-decreases-loop-j l = l.at + 16 - l.j
+    Trying (told_by l.scores l.s l.gamma) (run (l.s + l.at) 16) (run (l.s + l.j) (l.s + l.at + 16 - (l.s + l.j))) (l.s + l.j) (lent l.initial.list l.initial.sums) (lent l.list l.sums) l.initial.found l.found

@@ -11,10 +11,10 @@ use Rattle.stops.specs.Passing.{windows_at}
 use Rattle.stops.proofs.try_marked.Given as goal
 
 abbrev pub invariant-loop-left : goal.invariant-loop-left
-invariant-loop-left l = (l.i ≤ l.m) × (l.left ≡ l.mask % 2 ^ l.i) × (l.found.total ≤ l.found.tried) × (l.found.tried + l.i ≤ l.q + 1)
+invariant-loop-left l = (l.i ≤ l.spans.m) × (l.left ≡ l.mask % 2 ^ l.i) × (l.found.total ≤ l.found.tried) × (l.found.tried + l.i ≤ l.q + 1)
     × (length l.list ≡ length l.initial.list) × (length l.sums ≡ length l.initial.sums)
-    × (Marks l.m (λ (k : ℕ). all_fit (rule_in l.spans).fit l.recording (l.q - k) l.m) l.mask
-    → Trying (sought_by (rule_in l.spans) l.m l.gamma l.recording) (windows_at (bit l.mask) l.q l.m) (windows_at (bit l.mask) l.q l.i) (l.q + 1 - l.i)
+    × (Marks l.spans.m (λ (k : ℕ). all_fit (rule_in l.spans.rows).fit l.recording (l.q - k) l.spans.m) l.mask
+    → Trying (sought_by (rule_in l.spans.rows) l.spans.m l.gamma l.recording) (windows_at (bit l.mask) l.q l.spans.m) (windows_at (bit l.mask) l.q l.i) (l.q + 1 - l.i)
     (lent l.initial.list l.initial.sums) (lent l.list l.sums) l.initial.found l.found)
 
 abbrev pub decreases-loop-left : goal.decreases-loop-left
