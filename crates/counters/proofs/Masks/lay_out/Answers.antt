@@ -5,7 +5,7 @@ use native.Mathlib.Numerals.{add-one}
 use native.Mathlib.Omega.{arith}
 use lib.Pow.{pow_pos, pow_mono}
 use Rattle.counters.proofs.Laws.Widths.{one_shifted}
-use Rattle.counters.proofs.lay_out.Goals as goal
+use Rattle.counters.proofs.Masks.lay_out.Goals as goal
 
 half : (b : ℕ) → b < 63 → (1 * 2 ^ b) % 2 ^ 64 ≡ 2 ^ b
 half b h = one_shifted b (omega arith)
