@@ -1,14 +1,15 @@
 -- The table of additions as it is built: a word from its last point down, the list from its first reading up. Assumes nothing.
 use mathlib.Core.Path.{◌≡◌, refl, sym, ap, ◌∙◌}
 use mathlib.Core.Logic.{⊎_elim}
-use mathlib.Core.List.{List}
+use mathlib.Core.List.{List, [], ◌∷◌, ◌++◌}
 use Prim.Native.Nat.{ℕ, zero, suc, min, ◌+◌, ◌-◌, ◌*◌, ◌/◌, ◌%◌, ◌^◌, ◌≤◌, ◌<◌}
 use native.Mathlib.Nat.{le_trans, lt_of_lt_of_le, mul-le-mul, mul-le-mul_left, mul-le-mul_right, one-mul, add-sub_cancel_left, sub_self, sub-zero, zero-add, zero-mul}
 use native.Mathlib.Omega.{arith}
 use lib.Arith.{digits_lt, digits_div, digits_mod}
 use lib.Bits.{bit_or}
 use lib.ListN.{length, get_or, set, take, drop, length-set, length-take, length-drop}
-use lib.Seq.{drop-set-lt, get_or-set_same, get_or-set_other, get_or-take, get_or-drop}
+use lib.Seq.{drop-set-lt, get_or-set_same, get_or-set_other, get_or-take, get_or-drop, get_or-append_seam, take-append_seam}
+use Rattle.std.proofs.lemmas.List.{length_push, take-take}
 use borrow.Author.Count.{below_more}
 use borrow.Author.Tests.{lt-ltb, le-ltb}
 use Rattle.fit.specs.Reading.{highest}
@@ -50,6 +51,28 @@ module _ (l m : ℕ) (f : ℕ → ℕ) where
   filled_end w i h z =
       let e : i ≡ 0 = omega arith in
       laid_same l (rw (e, sub-zero) at h.laid) (λ t _. rw zero-add)
+
+-- ---- the points are taken from the last down: those that are left stand in front
+module _ (x rest : List ℕ) (v : ℕ) (front : rest ++ v ∷ [] ≡ take (length (rest ++ v ∷ [])) x) where
+  -- the next one is the last of them
+  pub last_left : v ≡ get_or x (length rest) 0
+  last_left =
+      sym (get_or-append_seam rest v [] 0)
+      ∙ ap (λ (xs : List ℕ). get_or xs (length rest) 0) front
+      ∙ get_or-take (length (rest ++ v ∷ [])) x (length rest) 0 (omega (arith, length_push rest v))
+
+  pub others_left : rest ≡ take (length rest) x
+  others_left =
+      sym (take-append_seam rest (v ∷ []))
+      ∙ ap (take (length rest)) front
+      ∙ take-take (length rest) (length (rest ++ v ∷ [])) x (omega (arith, length_push rest v))
+
+  pub filled_left : (l : ℕ) (f : ℕ → ℕ) (w a : ℕ) → Filled l (length x) f w (length (rest ++ v ∷ [])) → l * length x ≤ word_bits → a < 2 ^ l → a ≡ f (length rest)
+      → Filled l (length x) f (bit_or (w * 2 ^ l % 2 ^ word_bits) a) (length rest)
+  filled_left l f w a h fit small e =
+      let here : length (rest ++ v ∷ []) - 1 ≡ length rest = omega (arith, length_push rest v) in
+      rw here at
+      (filled_more l (length x) f w (length (rest ++ v ∷ [])) a h (omega (arith, length_push rest v)) fit small (e ∙ ap f (sym here)))
 
 -- ---- costs at the points, and 0 behind them
 module _ (m : ℕ) (f : ℕ → ℕ) (i : ℕ) where
