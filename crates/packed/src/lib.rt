@@ -6,8 +6,9 @@ ghost use Rattle.std.specs.Prelude.{length};
 ghost use Rattle.fit.specs.Place.{windows};
 ghost use Rattle.fit.specs.Answer.{lent, Answers};
 
-// The bits of a word.
-const WORD_BITS: u32 = 64;
+use adding::Additions;
+use counters::Masks;
+use scan::Scan;
 
 // Room for the most words that the counters take, for each reading.
 const TABLE_WORDS: usize = 256 * words::MAX_WORDS;
@@ -33,13 +34,26 @@ pub fn search(
         return begun;
     }
     let m = points.len();
-    let tolerance = checked.tolerance;
-    let d = tolerance.d();
-    let g = tolerance.g(m as u32);
+    let d = checked.tolerance.d();
+    let g = checked.tolerance.g(m as u32);
     let b = counters::low_bits(g);
-    let k = counters::lay_out(b, WORD_BITS / (b + 1), g as u64);
-    let per = k.per as usize;
-    let used = (m + (per - 1)) / per;
-    adding::additions(points, per, used, b + 1, d, g as u64, k.enter, &mut table);
-    words::scan_words(k, m, used, &table, recording, list, sums, begun)
+    let masks = Masks::lay_out(b, u64::BITS / (b + 1), u64::from(g));
+    let per = masks.per as usize;
+    let used = m.div_ceil(per);
+    let additions = Additions {
+        per,
+        l: b + 1,
+        d,
+        g: masks.g,
+        enter: masks.enter,
+    };
+    additions.tabulate(points, used, &mut table);
+    let scan = Scan {
+        masks,
+        m,
+        used,
+        table: &table,
+        recording,
+    };
+    words::scan_words(&scan, list, sums, begun)
 }

@@ -1,5 +1,5 @@
 -- The whole search: what is known where nothing refuses it, and that the sums by the table tell the places. Assumes nothing.
-use mathlib.Core.Path.{◌≡◌, refl, ap, ◌∙◌}
+use mathlib.Core.Path.{◌≡◌, refl, sym, ap, subst, ◌∙◌}
 use mathlib.Core.Bool.{true}
 use mathlib.Core.List.{List}
 use Prim.Native.Nat.{ℕ, suc, ◌+◌, ◌-◌, ◌*◌, ◌/◌, ◌^◌, ◌≤◌, ◌<◌}
@@ -160,13 +160,19 @@ module _ (delta gamma : ℕ) (x y : List ℕ) (d g b : ℕ) (o : Open delta gamm
               sum_same (scan_cost k used t) (added_of d g x) y s (length x)
               (λ i h. costs_tabled (suc k.b) k.per k.enter used (length x) (added_of d g x) t by_masks needed.enough i (reading_at y s i) h (bytes (s + i)))
 
+          -- the masks' bound is the search's
+          bound_is : k.g ≡ g_of (length x) delta gamma
+          bound_is = laid.g_is ∙ o.g_is
+
           same_test_at : (s : ℕ) → (sought_in k (length x) used t y).place s ≡ is_place delta gamma x y s
           same_test_at s =
-              rw (laid.g_is, o.g_is) (sums_tell delta gamma x y (scan_cost k used t) s (rw (o.d_is, o.g_is) at (table_sum s)))
+              subst (λ (g' : ℕ). is_place_by (summing (scan_cost k used t)) (length x) g' y s ≡ is_place delta gamma x y s) (sym bound_is)
+              (sums_tell delta gamma x y (scan_cost k used t) s (rw (o.d_is, o.g_is) at (table_sum s)))
 
           same_sum_at : (s : ℕ) → (sought_in k (length x) used t y).place s ≡ true → (sought_in k (length x) used t y).sum s ≡ sum_diff x y s
           same_sum_at s e =
-              summed_sum delta gamma x y (scan_cost k used t) s (rw (o.d_is, o.g_is) at (table_sum s)) (rw (laid.g_is, o.g_is) at e)
+              summed_sum delta gamma x y (scan_cost k used t) s (rw (o.d_is, o.g_is) at (table_sum s))
+              (subst (λ (g' : ℕ). is_place_by (summing (scan_cost k used t)) (length x) g' y s ≡ true) bound_is e)
 
           same_sought : SameSought (sought_in k (length x) used t y) (sought_of delta gamma x y)
           same_sought = record { same_count = refl; same_place = same_test_at; same_sum = same_sum_at }
