@@ -4,10 +4,11 @@
 
 ghost use Rattle.std.specs.Prelude.{length};
 ghost use Rattle.fit.specs.Place.{windows};
-ghost use Rattle.fit.specs.Answer.{lent, Answers};
+ghost use Rattle.fit.specs.Answer.{lent, search_of, Answers};
 
 use adding::Additions;
 use counters::Masks;
+use fit::{Found, Refusal};
 use scan::Scan;
 
 // Room for the most words that the counters take, for each reading.
@@ -21,18 +22,14 @@ pub fn search(
     recording: &[u8],
     list: &mut [u32],
     sums: &mut [u16],
-) -> fit::Search
+) -> Result<Found, Refusal>
     ensures { Answers delta gamma points.now recording.now
         (windows (length points.now) (length recording.now))
-        (lent list.old sums.old) result (lent list.new sums.new) }
+        (lent list.old sums.old) (search_of result) (lent list.new sums.new) }
 {
     // first of all: the compiler would lose a register if it took this much room later (docs/DECISIONS.md, What is compiled)
     let mut table = [0u64; TABLE_WORDS];
-    let checked = limits::checked_search(points, delta, gamma, recording);
-    let begun = fit::begin(checked.refusal);
-    if begun.refusal != 0 {
-        return begun;
-    }
+    let checked = limits::checked_search(points, delta, gamma, recording)?;
     let m = points.len();
     let d = checked.tolerance.d();
     let g = checked.tolerance.g(m as u32);
@@ -55,5 +52,5 @@ pub fn search(
         table: &table,
         recording,
     };
-    words::scan_words(&scan, list, sums, begun)
+    Ok(words::scan_words(&scan, list, sums))
 }

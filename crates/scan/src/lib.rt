@@ -2,15 +2,16 @@
 // What a counter is stands in counters, and what each reading adds in adding. In how many words the counters stand is the caller's to say.
 #![tactic(auto)]
 
-ghost use Rattle.std.specs.Prelude.{◌≡◌, true, cond, suc, ◌+◌, ◌-◌, ◌*◌, ◌%◌, ◌^◌, ◌≤◌, ◌<◌, length, replicate};
+ghost use Rattle.std.specs.Prelude.{◌≡◌, ◌==◌, suc, ◌+◌, ◌-◌, ◌*◌, ◌%◌, ◌^◌, ◌<◌, bit_and, length, replicate};
+ghost use Rattle.std.specs.Bool.{then_some};
 ghost use Rattle.fit.specs.Place.{windows};
-ghost use Rattle.fit.specs.Answer.{lent, begun};
+ghost use Rattle.fit.specs.Answer.{lent};
 ghost use Rattle.counters.specs.Word.{counter};
 ghost use Rattle.counters.specs.Words.{Whole, TurnedAcross};
 ghost use Rattle.scan.specs.Following.{scan_cost, Scannable, Follows, Short, Scans};
 
 use counters::Masks;
-use fit::Search;
+use fit::Found;
 
 // What is scanned, and by what: a recording by the counters of m points, which take `used` words, with a table of what each reading adds to them.
 #[derive(Clone, Copy)]
@@ -65,17 +66,18 @@ impl Scan<'_> {
         1u64 << ((self.masks.b + 1) * at + self.masks.b)
     }
 
-    // The sum of a place, which counter `at` of the word tells: the counter less what it started at. Of a window that is none, 0.
-    fn told_sum(&self, at: u32, word: u64, hit: bool) -> u16
-        requires { (at < self.now.masks.per) × (hit ≡ true → Short self.now.masks.enter (counter (suc self.now.masks.b) word at)) }
-        ensures { result ≡ cond hit (counter (suc self.now.masks.b) word at - self.now.masks.enter) 0 }
+    // The sum that counter `at` of the word tells where its top bit is clear, so that the window is a place: the counter less what it started at.
+    fn told_sum(&self, at: u32, bit: u64, word: u64) -> Option<u16>
+        requires { (at < self.now.masks.per)
+            × (bit_and word bit ≡ 0 → Short self.now.masks.enter (counter (suc self.now.masks.b) word at)) }
+        ensures { result ≡ then_some (bit_and word bit == 0) (counter (suc self.now.masks.b) word at - self.now.masks.enter) }
     {
-        if !hit {
-            return 0;
+        if word & bit != 0 {
+            return None;
         }
         let width = self.masks.b + 1;
         let value = (word >> (width * at)) % (1u64 << width);
-        (value - self.masks.enter) as u16
+        Some((value - self.masks.enter) as u16)
     }
 
     // Reads the readings behind the lead, and tries the window that ends at each: it is a place where the top bit of the last point's counter is
@@ -86,10 +88,8 @@ impl Scan<'_> {
         lead: usize,
         list: &mut [u32],
         sums: &mut [u16],
-        before: Search,
-    ) -> Search
-        requires begun { before ≡ begun 0 }
-        requires lead_value { (lead ≡ length self.now.recording.now - windows self.now.m (length self.now.recording.now))
+    ) -> Found
+        requires { (lead ≡ length self.now.recording.now - windows self.now.m (length self.now.recording.now))
             × Follows self.now.masks self.now.used self.now.table.now self.now.recording.now words.old lead }
         ensures scans { Scans self.now.masks self.now.m self.now.used self.now.table.now self.now.recording.now
             (lent list.old sums.old) result (lent list.new sums.new) }
@@ -99,13 +99,11 @@ impl Scan<'_> {
         let last = words.len() - 1;
         let at = self.last_at();
         let bit = self.top_bit(at);
-        let mut found = before;
+        let mut found = Found::default();
         for s in 0..self.recording.len() - lead {
             self.read_one(words, self.recording[lead + s]);
-            let word = words[last];
-            let hit = word & bit == 0;
-            let sum = self.told_sum(at, word, hit);
-            found = window::note(list, sums, s, hit, sum, found);
+            let sum = self.told_sum(at, bit, words[last]);
+            found = noting::note(list, sums, s, sum, found);
         }
         found
     }

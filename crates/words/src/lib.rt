@@ -3,56 +3,51 @@
 #![tactic(auto)]
 
 ghost use Rattle.std.specs.Prelude.{◌≡◌, ◌≤◌};
-ghost use Rattle.fit.specs.Answer.{lent, begun};
+ghost use Rattle.fit.specs.Answer.{lent};
 ghost use Rattle.scan.specs.Following.{Scans};
 ghost use Rattle.words.specs.Most.{max_words};
 
-use fit::Search;
+use fit::Found;
 use scan::Scan;
 
 // The most words that the counters take: 64 counters of 15 bits, four to a word.
 pub const MAX_WORDS: usize = 16;
 
 // Reads the recording once, with the counters in N words.
-fn scan_in<const N: usize>(
-    scan: &Scan,
-    list: &mut [u32],
-    sums: &mut [u16],
-    before: Search,
-) -> Search
-    requires { (scan.now.used ≡ N) × (before ≡ begun 0) }
+fn scan_in<const N: usize>(scan: &Scan, list: &mut [u32], sums: &mut [u16]) -> Found
+    requires { scan.now.used ≡ N }
     ensures { Scans scan.now.masks scan.now.m scan.now.used scan.now.table.now scan.now.recording.now
         (lent list.old sums.old) result (lent list.new sums.new) }
 {
     let mut words = [scan.masks.top; N];
     let lead = scan.read_lead(&mut words);
-    scan.read_windows(&mut words, lead, list, sums, before)
+    scan.read_windows(&mut words, lead, list, sums)
 }
 
 // The same with the counters in the front of an array.
-fn scan_in_front(scan: &Scan, list: &mut [u32], sums: &mut [u16], before: Search) -> Search
-    requires { (scan.now.used ≤ max_words) × (before ≡ begun 0) }
+fn scan_in_front(scan: &Scan, list: &mut [u32], sums: &mut [u16]) -> Found
+    requires { scan.now.used ≤ max_words }
     ensures { Scans scan.now.masks scan.now.m scan.now.used scan.now.table.now scan.now.recording.now
         (lent list.old sums.old) result (lent list.new sums.new) }
 {
     let mut words = [scan.masks.top; MAX_WORDS];
     let front = &mut words[..scan.used];
     let lead = scan.read_lead(front);
-    scan.read_windows(front, lead, list, sums, before)
+    scan.read_windows(front, lead, list, sums)
 }
 
 // Reads the recording once, with the counters in so many words.
-pub fn scan_words(scan: &Scan, list: &mut [u32], sums: &mut [u16], before: Search) -> Search
-    requires { (scan.now.used ≤ max_words) × (before ≡ begun 0) }
+pub fn scan_words(scan: &Scan, list: &mut [u32], sums: &mut [u16]) -> Found
+    requires { scan.now.used ≤ max_words }
     ensures { Scans scan.now.masks scan.now.m scan.now.used scan.now.table.now scan.now.recording.now
         (lent list.old sums.old) result (lent list.new sums.new) }
 {
     match scan.used {
-        1 => scan_in::<1>(scan, list, sums, before),
-        2 => scan_in::<2>(scan, list, sums, before),
-        3 => scan_in::<3>(scan, list, sums, before),
-        4 => scan_in::<4>(scan, list, sums, before),
-        5 => scan_in::<5>(scan, list, sums, before),
-        _ => scan_in_front(scan, list, sums, before),
+        1 => scan_in::<1>(scan, list, sums),
+        2 => scan_in::<2>(scan, list, sums),
+        3 => scan_in::<3>(scan, list, sums),
+        4 => scan_in::<4>(scan, list, sums),
+        5 => scan_in::<5>(scan, list, sums),
+        _ => scan_in_front(scan, list, sums),
     }
 }

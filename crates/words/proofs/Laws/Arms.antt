@@ -1,14 +1,9 @@
 -- A scan in so many words, in an array of their own. Assumes nothing.
-use mathlib.Core.Path.{◌≡◌, refl, ap}
-use mathlib.Core.List.{List, ◌∷◌, ◌++◌}
-use Prim.Native.Nat.{ℕ, zero, suc, ◌-◌, ◌≤◌}
-use native.Mathlib.Nat.{sub-zero}
-use native.Mathlib.Omega.{arith}
-use lib.ListN.{length, take, replicate}
-use lib.Seq.{take_at}
+use mathlib.Core.Path.{◌≡◌}
+use mathlib.Core.List.{List}
+use Prim.Native.Nat.{ℕ, ◌-◌}
+use lib.ListN.{length}
 use Rattle.fit.specs.Place.{windows}
-use Rattle.fit.specs.Answer.{begun}
-use Rattle.fit.specs.declared.answer.Search.{Search}
 use Rattle.counters.specs.declared.Masks.{Masks}
 use Rattle.scan.specs.Following.{Scannable, Follows}
 
@@ -18,6 +13,7 @@ module _ (k : Masks) (m used n : ℕ) (t y : List ℕ) (e : used ≡ n) (given :
   may_lead = rw (← e) given
 
   module _ (words : List ℕ) (lead : ℕ) (f : (lead ≡ length y - windows m (length y)) × Follows k n t y words lead) where
-    pub may_window : (found : Search) → found ≡ begun 0
-        → (Scannable k m (length words) t y × (found ≡ begun 0)) × ((lead ≡ length y - windows m (length y)) × Follows k (length words) t y words lead)
-    may_window found none = rw f.1.long ((may_lead, none), f)
+    -- whatever the search has found so far
+    pub may_window : {A : Type 0} (before found : A) → found ≡ before
+        → (Scannable k m (length words) t y × (found ≡ before)) × ((lead ≡ length y - windows m (length y)) × Follows k (length words) t y words lead)
+    may_window before found none = rw f.1.long ((may_lead, none), f)

@@ -1,5 +1,5 @@
 -- `scan::Scan::read_lead` meets its contract: after j readings the words follow the separate sums.
-use Rattle.std.proofs.Common.{◌≡◌, ◌∙◌, ap, length}
+use Rattle.std.proofs.Common.{◌∙◌, ap, length}
 use Rattle.std.proofs.lemmas.List.{length-replicate}
 use Rattle.scan.proofs.Laws.Following.{follows_start, follows_more}
 use Rattle.scan.proofs.Scan.read_lead.Goals as goal

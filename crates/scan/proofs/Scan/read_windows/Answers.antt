@@ -1,22 +1,24 @@
 -- `scan::Scan::read_windows` meets its contract: it goes along the walk that tries every window, one reading for each.
-use Rattle.std.proofs.Common.{refl}
+use Rattle.std.proofs.Common.{refl, eq-eqb}
 use Rattle.scan.proofs.Laws.Scanning.{scanned_start, scanned_short, scanned_more, scanned_end}
 use Rattle.scan.proofs.Scan.read_windows.Goals as goal
 
 pub loop-s-init : goal.loop-s-init
 loop-s-init c =
-    let lead = c.requires.lead_value in
-    scanned_start _ _ _ _ _ _ _ _ _ _ _ _ c.args.self.now.scannable refl lead.0 c.last_at-at.ensures.0 c.top_bit-bit.ensures c.requires.begun lead.1
+    let lead = c.requires in
+    let none = c.default-found.ensures in
+    scanned_start _ _ _ _ _ _ _ _ _ _ _ _ c.args.self.now.scannable refl lead.0 c.last_at-at.ensures.0 c.top_bit-bit.ensures
+    (λ i. record { total = none.0 i; tried = none.1.0 i; least = none.1.1 i }) lead.1
 
 pub told_sum-sum-requires : goal.told_sum-sum-requires
 told_sum-sum-requires c =
-    rw c.requires.lead_value.1.long
-    (c.last_at-at.ensures.1, scanned_short _ _ _ _ _ _ _ _ _ c.loop-s.invariant c.loop-s-test.true c.read_one.ensures)
+    rw c.requires.1.long
+    (c.last_at-at.ensures.1, λ e. scanned_short _ _ _ _ _ _ _ _ _ c.loop-s.invariant c.loop-s-test.true c.read_one.ensures (eq-eqb _ _ e))
 
 pub loop-s-preserved : goal.loop-s-preserved
 loop-s-preserved c =
     scanned_more _ _ _ _ _ _ _ _ _ c.loop-s.invariant c.loop-s-test.true c.read_one.ensures
-    (rw c.requires.lead_value.1.long at c.told_sum-sum.ensures) (rw c.requires.lead_value.1.long at c.note-found.ensures)
+    (rw c.requires.1.long at c.told_sum-sum.ensures) c.note-found.ensures
 
 pub returns-clause-scans : goal.returns-clause-scans
 returns-clause-scans c = (scanned_end _ _ _ _ _ _ _ _ _ c.loop-s.invariant c.loop-s-test.false).0
