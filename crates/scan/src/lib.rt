@@ -38,7 +38,8 @@ impl Scan<'_> {
     }
 
     // Reads the readings that end no window, so that none of them is asked for one, and answers how many they are. Before them all counters are
-    // above g.
+    // above g. Each number of words takes this and `read_windows` over, and so has them with as many words as it knows of.
+    #[inline(always)]
     pub fn read_lead(&self, words: &mut [u64]) -> usize
         requires { words.old ≡ replicate self.now.used self.now.masks.top }
         ensures { (result ≡ length self.now.recording.now - windows self.now.m (length self.now.recording.now))
@@ -82,6 +83,7 @@ impl Scan<'_> {
 
     // Reads the readings behind the lead, and tries the window that ends at each: it is a place where the top bit of the last point's counter is
     // clear, and then that counter tells its sum. It stands in the last word.
+    #[inline(always)]
     pub fn read_windows(
         &self,
         words: &mut [u64],
@@ -100,8 +102,8 @@ impl Scan<'_> {
         let at = self.last_at();
         let bit = self.top_bit(at);
         let mut found = Found::default();
-        for s in 0..self.recording.len() - lead {
-            self.read_one(words, self.recording[lead + s]);
+        for (s, &a) in self.recording[lead..].iter().enumerate() {
+            self.read_one(words, a);
             let sum = self.told_sum(at, bit, words[last]);
             found = noting::note(list, sums, s, sum, found);
         }

@@ -8,7 +8,8 @@ use mathlib.Core.List.{List}
 use Prim.Native.Nat.{ℕ, suc, ◌+◌, ◌-◌, ◌*◌, ◌%◌, ◌^◌, ◌≤◌, ◌<◌}
 use native.Mathlib.Omega.{arith}
 use lib.Bits.{bit_and}
-use lib.ListN.{length, get_or}
+use lib.ListN.{length, get_or, take, drop, length-take, length-drop}
+use lib.Seq.{get_or-take, get_or-drop}
 use lib.Dec.{eqb}
 use Rattle.fit.specs.Place.{windows}
 use Rattle.fit.specs.Walk.{walk_by, every_window}
@@ -23,6 +24,17 @@ use Rattle.counters.specs.Words.{TurnedAcross}
 use Rattle.counters.specs.declared.Masks.{Masks}
 use Rattle.scan.specs.Following.{scan_cost, Scannable, Follows, Short, summing, sought_in}
 use Rattle.scan.proofs.Laws.Following.{follows_more, last_told, judged}
+
+-- the readings behind the lead, as the code takes them
+module _ (lead : ℕ) (y : List ℕ) where
+  abbrev behind : List ℕ
+  behind = take (length y - lead) (drop lead y)
+
+  pub behind_length : length behind ≡ length y - lead
+  behind_length = simp (length-take, length-drop) (omega arith)
+
+  pub behind_at : (s : ℕ) → s < length y - lead → get_or behind s 0 ≡ get_or y (lead + s) 0
+  behind_at s h = get_or-take (length y - lead) (drop lead y) s 0 h ∙ get_or-drop lead y s 0
 
 -- the windows below s were tried, and the words are at the reading before the next window's last; `at` and `bit` tell the last point's counter
 pub record Scanned (k : Masks) (m used : ℕ) (t y : List ℕ) (count lead at bit : ℕ) (entry held : Lent) (words : List ℕ) (s : ℕ) (found : Found) : Type 0 where

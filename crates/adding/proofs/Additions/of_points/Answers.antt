@@ -1,8 +1,9 @@
 -- `adding::Additions::of_points` meets its contract: the points that are left stand in front, and those behind them are laid.
 use Rattle.std.proofs.Common.{◌≡◌, ◌<◌, ◌^◌, ◌∙◌, ap, arith, length, le_trans, mul-le-mul_left}
+use Rattle.std.proofs.lemmas.List.{length_push}
 use Rattle.adding.specs.Costs.{added, added_of}
 use Rattle.adding.proofs.Laws.Costing.{added_le}
-use Rattle.adding.proofs.Laws.Filling.{last_left, others_left, filled_left}
+use Rattle.adding.proofs.Laws.Filling.{filled_more, last_left, others_left}
 use Rattle.adding.proofs.Additions.of_points.Goals as goal
 
 pub loop-p-preserved : goal.loop-p-preserved
@@ -17,5 +18,5 @@ loop-p-preserved c =
     c.at_point.ensures ∙ ap (λ p. added k.d k.g p a.a) (last_left a.points.now left _ front) in
     record {
       front = others_left a.points.now left _ front;
-      filled = filled_left a.points.now left _ front k.l _ _ _ filled (le_trans (mul-le-mul_left k.l c.requires) k.room.fit) small is;
+      filled = filled_more k.l _ _ _ (length left) _ (rw (length_push left _) at filled) (le_trans (mul-le-mul_left k.l c.requires) k.room.fit) small is;
     }
