@@ -3,85 +3,51 @@
 #![tactic(auto)]
 
 ghost use Rattle.std.specs.Prelude.{◌≡◌, ◌≤◌};
-ghost use Rattle.fit.specs.Answer.{lent, begun};
-ghost use Rattle.scan.specs.Following.{Scannable, Scans};
+ghost use Rattle.fit.specs.Answer.{lent};
+ghost use Rattle.scan.specs.Following.{Scans};
 ghost use Rattle.words.specs.Most.{max_words};
 
-use counters::Masks;
-use fit::Search;
+use fit::Found;
+use scan::Scan;
 
 // The most words that the counters take: 64 counters of 15 bits, four to a word.
 pub const MAX_WORDS: usize = 16;
 
-// Reads the recording once, for more words than three; it would serve any number.
-fn scan_more(
-    k: Masks,
-    m: usize,
-    used: usize,
-    table: &[u64],
-    recording: &[u8],
-    list: &mut [u32],
-    sums: &mut [u16],
-    before: Search,
-) -> Search
-    requires { Scannable k m used table.now recording.now × (used ≤ max_words) × (before ≡ begun 0) }
-    ensures { Scans k m used table.now recording.now
+// Reads the recording once, with the counters in N words.
+fn scan_in<const N: usize>(scan: &Scan, list: &mut [u32], sums: &mut [u16]) -> Found
+    requires { scan.now.used ≡ N }
+    ensures { Scans scan.now.masks scan.now.m scan.now.used scan.now.table.now scan.now.recording.now
         (lent list.old sums.old) result (lent list.new sums.new) }
 {
-    if used == 4 {
-        let mut words = [k.top; 4];
-        let lead = scan::read_lead(k, m, table, &mut words, recording);
-        return scan::read_windows(k, m, table, &mut words, lead, recording, list, sums, before);
-    }
-    if used == 5 {
-        let mut words = [k.top; 5];
-        let lead = scan::read_lead(k, m, table, &mut words, recording);
-        return scan::read_windows(k, m, table, &mut words, lead, recording, list, sums, before);
-    }
-    let mut words = [k.top; MAX_WORDS];
-    let lead = scan::read_lead(k, m, table, &mut words[0..used], recording);
-    scan::read_windows(
-        k,
-        m,
-        table,
-        &mut words[0..used],
-        lead,
-        recording,
-        list,
-        sums,
-        before,
-    )
+    let mut words = [scan.masks.top; N];
+    let lead = scan.read_lead(&mut words);
+    scan.read_windows(&mut words, lead, list, sums)
+}
+
+// The same with the counters in the front of an array.
+fn scan_in_front(scan: &Scan, list: &mut [u32], sums: &mut [u16]) -> Found
+    requires { scan.now.used ≤ max_words }
+    ensures { Scans scan.now.masks scan.now.m scan.now.used scan.now.table.now scan.now.recording.now
+        (lent list.old sums.old) result (lent list.new sums.new) }
+{
+    let mut words = [scan.masks.top; MAX_WORDS];
+    let front = &mut words[..scan.used];
+    let lead = scan.read_lead(front);
+    scan.read_windows(front, lead, list, sums)
 }
 
 // Reads the recording once, with the counters in so many words.
-pub fn scan_words(
-    k: Masks,
-    m: usize,
-    used: usize,
-    table: &[u64],
-    recording: &[u8],
-    list: &mut [u32],
-    sums: &mut [u16],
-    before: Search,
-) -> Search
-    requires { Scannable k m used table.now recording.now × (used ≤ max_words) × (before ≡ begun 0) }
-    ensures { Scans k m used table.now recording.now
+pub fn scan_words(scan: &Scan, list: &mut [u32], sums: &mut [u16]) -> Found
+    requires { scan.now.used ≤ max_words }
+    ensures { Scans scan.now.masks scan.now.m scan.now.used scan.now.table.now scan.now.recording.now
         (lent list.old sums.old) result (lent list.new sums.new) }
 {
-    if used == 1 {
-        let mut words = [k.top; 1];
-        let lead = scan::read_lead(k, m, table, &mut words, recording);
-        return scan::read_windows(k, m, table, &mut words, lead, recording, list, sums, before);
+    match scan.used {
+        1 => scan_in::<1>(scan, list, sums),
+        2 => scan_in::<2>(scan, list, sums),
+        3 => scan_in::<3>(scan, list, sums),
+        4 => scan_in::<4>(scan, list, sums),
+        5 => scan_in::<5>(scan, list, sums),
+        _ => scan_in_front(scan, list, sums),
     }
-    if used == 2 {
-        let mut words = [k.top; 2];
-        let lead = scan::read_lead(k, m, table, &mut words, recording);
-        return scan::read_windows(k, m, table, &mut words, lead, recording, list, sums, before);
-    }
-    if used == 3 {
-        let mut words = [k.top; 3];
-        let lead = scan::read_lead(k, m, table, &mut words, recording);
-        return scan::read_windows(k, m, table, &mut words, lead, recording, list, sums, before);
-    }
-    scan_more(k, m, used, table, recording, list, sums, before)
 }

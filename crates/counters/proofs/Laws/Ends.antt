@@ -62,9 +62,6 @@ module _ (b n : ℕ) (some : 1 ≤ n) where
   whole : suc b * n ≡ suc b + suc b * (n - 1)
   whole = ap (λ (x : ℕ). suc b * x) (omega arith) ∙ mul-suc (suc b) (n - 1) ∙ add_comm (suc b * (n - 1)) (suc b)
 
-  pub above_lt : suc b * n ≤ word_bits → (b + 1) * (n - 1) < word_bits
-  above_lt fit = rw add-one (omega (arith, whole))
-
   pub top_counter : (w : ℕ) → w < 2 ^ (suc b * n) → w / 2 ^ (suc b * (n - 1)) ≡ counter (suc b) w (n - 1)
   unfolding counter
   top_counter w h = sym (shr_mod {n = w} (suc b) (suc b * (n - 1)) (rw whole at h))

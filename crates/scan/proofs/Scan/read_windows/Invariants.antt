@@ -1,0 +1,10 @@
+-- `scan::Scan::read_windows` meets its contract: it goes along the walk that tries every window, one reading for each.
+use Rattle.std.proofs.Common.{◌-◌, length}
+use Rattle.fit.specs.Answer.{lent}
+use Rattle.scan.proofs.Laws.Scanning.{Scanned}
+use Rattle.scan.proofs.Scan.read_windows.Given as goal
+
+abbrev pub invariant-loop-s : goal.invariant-loop-s
+invariant-loop-s l =
+    let scan = l.self in
+    Scanned scan.masks scan.m scan.used scan.table.now scan.recording.now (length scan.recording.now - l.lead) l.lead l.at l.bit (lent l.initial.list l.initial.sums) (lent l.list l.sums) l.words l.s l.found
