@@ -9,6 +9,7 @@ ghost use Rattle.fit.specs.Answer.{lent, search_of, Answers};
 use adding::Additions;
 use counters::Masks;
 use fit::{Found, Refusal};
+use noting::Lists;
 use scan::Scan;
 
 // Room for the most words that the counters take, for each reading.
@@ -52,5 +53,5 @@ pub fn search(
         table: &table,
         recording,
     };
-    Ok(words::scan_words(&scan, list, sums))
+    Ok(words::scan_words(&scan, &mut Lists { list, sums }))
 }

@@ -5,13 +5,14 @@
 ghost use Rattle.std.specs.Prelude.{◌≡◌, ◌==◌, suc, ◌+◌, ◌-◌, ◌*◌, ◌%◌, ◌^◌, ◌<◌, bit_and, length, replicate};
 ghost use Rattle.std.specs.Bool.{then_some};
 ghost use Rattle.fit.specs.Place.{windows};
-ghost use Rattle.fit.specs.Answer.{lent};
+ghost use Rattle.noting.specs.Lists.{lent_in, Same};
 ghost use Rattle.counters.specs.Word.{counter};
 ghost use Rattle.counters.specs.Words.{Whole, TurnedAcross};
 ghost use Rattle.scan.specs.Following.{scan_cost, Scannable, Follows, Short, Scans};
 
 use counters::Masks;
 use fit::Found;
+use noting::Lists;
 
 // What is scanned, and by what: a recording by the counters of m points, which take `used` words, with a table of what each reading adds to them.
 #[derive(Clone, Copy)]
@@ -84,19 +85,14 @@ impl Scan<'_> {
     // Reads the readings behind the lead, and tries the window that ends at each: it is a place where the top bit of the last point's counter is
     // clear, and then that counter tells its sum. It stands in the last word.
     #[inline(always)]
-    pub fn read_windows(
-        &self,
-        words: &mut [u64],
-        lead: usize,
-        list: &mut [u32],
-        sums: &mut [u16],
-    ) -> Found
+    pub fn read_windows(&self, words: &mut [u64], lead: usize, lists: &mut Lists) -> Found
         requires { (lead ≡ length self.now.recording.now - windows self.now.m (length self.now.recording.now))
             × Follows self.now.masks self.now.used self.now.table.now self.now.recording.now words.old lead }
         ensures scans { Scans self.now.masks self.now.m self.now.used self.now.table.now self.now.recording.now
-            (lent list.old sums.old) result (lent list.new sums.new) }
+            (lent_in lists.old) result (lent_in lists.new) }
         ensures follows { Follows self.now.masks self.now.used self.now.table.now self.now.recording.now words.new
             (length self.now.recording.now) }
+        ensures same { Same lists.old lists.new }
     {
         let last = words.len() - 1;
         let at = self.last_at();
@@ -105,7 +101,7 @@ impl Scan<'_> {
         for (s, &a) in self.recording[lead..].iter().enumerate() {
             self.read_one(words, a);
             let sum = self.told_sum(at, bit, words[last]);
-            found = noting::note(list, sums, s, sum, found);
+            found = noting::note(lists, s, sum, found);
         }
         found
     }

@@ -1,4 +1,5 @@
 -- `packed::search` meets its contract: refused as its input is, or the scan by the masks and the table that were built, in as many words as needed.
+use Rattle.std.proofs.Common.{rules}
 use Rattle.fit.proofs.Laws.Refused.{handed_search}
 use Rattle.packed.proofs.Laws.Answering.{opened, underway, may_lay_out, may_add, may_scan, answered}
 use Rattle.packed.proofs.search.Goals as goal
@@ -33,5 +34,6 @@ invariant_of-scan c =
 pub returns : goal.returns
 returns c =
     let u = underway (opened _ _ _ _ c.in_ok-checked.ensures c.d-d.ensures c.g-g.ensures c.low_bits-b.ensures) c.from.ensures c.lay_out-masks.ensures c.div_ceil-used.ensures in
-    answered _ _ _ _ _ _ _ u.known _ u.laid _ u.used_is _ (rw u.laid.g_is at c.tabulate.ensures.tabled)
-    (λ j. (c.type_inv.recording j).fits) c.scan_words.ensures
+    let answer = answered _ _ _ _ _ _ _ u.known _ u.laid _ u.used_is _ (rw u.laid.g_is at c.tabulate.ensures.tabled)
+    (λ j. (c.type_inv.recording j).fits) c.scan_words.ensures.scans in
+    search rules
