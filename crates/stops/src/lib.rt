@@ -104,13 +104,11 @@ fn try_marked(
 {
     let mut found = before;
     let mut left = mask;
-    // all marks that are left are below point i
-    let mut i = spans.m;
     while 0 < left {
         let taken = marks::take_highest(left);
-        i = taken.point;
         left = taken.left;
-        found = window::try_fitting(spans, gamma, recording, list, sums, q - i, found);
+        let at = q - taken.point;
+        found = window::try_fitting(spans, gamma, recording, list, sums, at, found);
     }
     found
 }

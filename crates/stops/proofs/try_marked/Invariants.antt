@@ -1,7 +1,6 @@
 -- `stops::try_marked` meets its contract: it goes down the marked points, and tries their windows. Assumes nothing.
 use mathlib.Core.Path.{◌≡◌}
 use Prim.Native.Nat.{ℕ, ◌+◌, ◌-◌, ◌%◌, ◌^◌, ◌≤◌}
-use lib.ListN.{length}
 use Rattle.fit.specs.Rule.{all_fit}
 use Rattle.fit.specs.Spans.{rule_in}
 use Rattle.fit.specs.Answer.{sought_by, lent}
@@ -11,11 +10,12 @@ use Rattle.stops.specs.Passing.{windows_at}
 use Rattle.stops.proofs.try_marked.Given as goal
 
 abbrev pub invariant-loop-left : goal.invariant-loop-left
-invariant-loop-left l = (l.i ≤ l.spans.m) × (l.left ≡ l.mask % 2 ^ l.i) × (l.found.total ≤ l.found.tried) × (l.found.tried + l.i ≤ l.q + 1)
-    × (length l.list ≡ length l.initial.list) × (length l.sums ≡ length l.initial.sums)
+invariant-loop-left l =
+    -- all marks that are left are below point i
+    (i : ℕ) × ((i ≤ l.spans.m) × (l.left ≡ l.mask % 2 ^ i) × (l.found.total ≤ l.found.tried) × (l.found.tried + i ≤ l.q + 1)
     × (Marks l.spans.m (λ (k : ℕ). all_fit (rule_in l.spans.rows).fit l.recording (l.q - k) l.spans.m) l.mask
-    → Trying (sought_by (rule_in l.spans.rows) l.spans.m l.gamma l.recording) (windows_at (bit l.mask) l.q l.spans.m) (windows_at (bit l.mask) l.q l.i) (l.q + 1 - l.i)
-    (lent l.initial.list l.initial.sums) (lent l.list l.sums) l.initial.found l.found)
+    → Trying (sought_by (rule_in l.spans.rows) l.spans.m l.gamma l.recording) (windows_at (bit l.mask) l.q l.spans.m) (windows_at (bit l.mask) l.q i) (l.q + 1 - i)
+    (lent l.initial.list l.initial.sums) (lent l.list l.sums) l.initial.found l.found))
 
 abbrev pub decreases-loop-left : goal.decreases-loop-left
 decreases-loop-left l = l.left
