@@ -13,23 +13,28 @@ use scan::Scan;
 // The most words that the counters take: 64 counters of 15 bits, four to a word.
 pub const MAX_WORDS: usize = 16;
 
-// Reads the recording once, with the counters in N words.
+// Reads the recording once, with the counters in N words. A function of its own for each N, so that what one keeps in registers is no other's loss.
+#[inline(never)]
 fn scan_in<const N: usize>(scan: &Scan, list: &mut [u32], sums: &mut [u16]) -> Found
     requires { scan.now.used ≡ N }
     ensures { Scans scan.now.masks scan.now.m scan.now.used scan.now.table.now scan.now.recording.now
         (lent list.old sums.old) result (lent list.new sums.new) }
 {
+    // a copy, which no write to the lent lists can change
+    let scan = *scan;
     let mut words = [scan.masks.top; N];
     let lead = scan.read_lead(&mut words);
     scan.read_windows(&mut words, lead, list, sums)
 }
 
 // The same with the counters in the front of an array.
+#[inline(never)]
 fn scan_in_front(scan: &Scan, list: &mut [u32], sums: &mut [u16]) -> Found
     requires { scan.now.used ≤ max_words }
     ensures { Scans scan.now.masks scan.now.m scan.now.used scan.now.table.now scan.now.recording.now
         (lent list.old sums.old) result (lent list.new sums.new) }
 {
+    let scan = *scan;
     let mut words = [scan.masks.top; MAX_WORDS];
     let front = &mut words[..scan.used];
     let lead = scan.read_lead(front);
