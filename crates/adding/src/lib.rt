@@ -5,6 +5,7 @@ ghost use Rattle.std.specs.Prelude.{◌≡◌, suc, ◌+◌, ◌*◌, ◌≤◌,
 ghost use Rattle.fit.specs.Reading.{highest};
 ghost use Rattle.fit.specs.Refusal.{max_points};
 ghost use Rattle.counters.specs.Word.{Laid};
+ghost use Rattle.counters.specs.Words.{LaidAcross};
 ghost use Rattle.adding.specs.Costs.{added, added_of, with_entering};
 ghost use Rattle.adding.specs.Tables.{Room, padded, TabledIn};
 
@@ -67,6 +68,17 @@ impl Additions {
         if j == 0 { word + self.enter } else { word }
     }
 
+    // Puts the words of reading a into its row of the table.
+    fn fill_row(self, points: &[u8], a: u8, row: &mut [u64])
+        requires { (1 ≤ length points.now) × (length row.old ≤ max_points) }
+        ensures { LaidAcross self.l self.per row.new
+            (padded (length points.now) (λ i. with_entering self.enter (added_of self.d self.g points.now) i a)) }
+    {
+        for (j, word) in row.iter_mut().enumerate() {
+            *word = self.with_entering(points, j, a);
+        }
+    }
+
     // Puts the words of all 256 readings into the table, `used` to a reading.
     pub fn tabulate(self, points: &[u8], used: usize, table: &mut [u64])
         requires some { 1 ≤ length points.now }
@@ -74,8 +86,9 @@ impl Additions {
         ensures { TabledIn self.l self.per used (length points.now) (with_entering self.enter (added_of self.d self.g points.now))
             table.old table.new }
     {
-        for i in 0..256 * used {
-            table[i] = self.with_entering(points, i % used, (i / used) as u8);
+        for a in 0..256 {
+            let from = a * used;
+            self.fill_row(points, a as u8, &mut table[from..from + used]);
         }
     }
 }

@@ -3,11 +3,10 @@ use mathlib.Core.Path.{◌≡◌, refl, sym, ap, ◌∙◌}
 use mathlib.Core.Logic.{◌↔◌, ⊎_elim}
 use Prim.Native.Nat.{ℕ, zero, suc, ◌+◌, ◌-◌, ◌*◌, ◌/◌, ◌%◌, ◌^◌, ◌≤◌, ◌<◌}
 use native.Mathlib.Nat.{mul-suc, add_comm, zero-mul, div-eq_of_lt, div-eq_of_lt-le}
-use native.Mathlib.Numerals.{add-one}
 use native.Mathlib.Omega.{arith}
 use lib.Pow.{shr_mod, shr-shr, field, pow_pos}
 use lib.Bits.{bit_and}
-use Rattle.counters.specs.Word.{word_bits, counter, Laid}
+use Rattle.counters.specs.Word.{counter, Laid}
 use Rattle.counters.specs.Sums.{Stands, Agrees, moved, stepped, entering, costs}
 use Rattle.counters.proofs.Laws.Widths.{le_or_lt}
 use Rattle.counters.proofs.Laws.Fields.{counter_lt}
