@@ -3,9 +3,7 @@ use Rattle.lines.proofs.Laws.Texts.{line_refused, line_counted}
 use Rattle.lines.proofs.put_line.Goals as goal
 
 pub returns-then-found-ne0 : goal.returns-then-found-ne0
-returns-then-found-ne0 c =
-    line_refused _ _ _ _ c.if-found-ne0.true c.put_refused.ensures
+returns-then-found-ne0 c = line_refused _ _ c.if-found-ne0.true c.put_refused.ensures
 
-pub returns : goal.returns
-returns c =
-    line_counted _ _ _ _ c.if-found-ne0.false c.put_counts.ensures
+pub returns-else-found-ne0 : goal.returns-else-found-ne0
+returns-else-found-ne0 c = line_counted _ _ c.if-found-ne0.false c.put_counts.ensures
