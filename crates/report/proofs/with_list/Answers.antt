@@ -2,7 +2,7 @@
 use mathlib.Core.Path.{sym}
 use native.Mathlib.Omega.{arith}
 use lib.Seq.{length-take-le}
-use Rattle.page.proofs.Laws.Pages.{put_both}
+use Rattle.page.proofs.Laws.Pages.{puts_both}
 use Rattle.report.proofs.Laws.Reports.{told_as, listed_as, places_held}
 use Rattle.report.proofs.with_list.Goals as goal
 
@@ -15,5 +15,5 @@ slice_bounds-put_places-end-2 c = sym (length-take-le _ _ (places_held _ _ _ _ _
 pub returns : goal.returns
 returns c =
     let found = c.search-found.ensures in
-    put_both _ _ _ _ (put_both _ _ _ _ (told_as _ _ _ found.result c.put_line-told.ensures) c.put_others-end.ensures)
-    (listed_as _ _ (places_held _ _ _ _ _ _ _ _ found c.requires).1 c.put_places.ensures)
+    puts_both _ _ (puts_both _ _ (told_as _ found.result c.put_line.ensures) c.put_others.ensures)
+    (listed_as (places_held _ _ _ _ _ _ _ _ found c.requires).1 c.put_places.ensures)
