@@ -1,13 +1,9 @@
 -- What the parse of an input answers, refused or not. Assumes nothing.
 use Rattle.std.specs.Prelude.{ℕ, ◌≡◌, List, [], length, Result, Ok, Err}
 use Rattle.input.specs.declared.Input.{Input}
-use Rattle.input.specs.declared.refusal.Refusal.{Refusal}
-use Rattle.input.specs.declared.refusal.Refusal.TheVariants.{NoPoints, BadInput}
+use Rattle.fit.specs.Refused.{number_of}
+use Rattle.fit.specs.declared.refusal.Refusal.{Refusal}
 use Rattle.input.specs.Inputs.{Front, front_of, points_in, recording_in}
-
-abbrev pub number_of : Refusal → ℕ
-number_of NoPoints = 1
-number_of BadInput = 5
 
 -- the numbers in front, or the refusal's and zeros
 abbrev pub front_told : Result Input Refusal → Front

@@ -1,11 +1,9 @@
 // The input of the program, taken apart.
 #![tactic(auto)]
 
-mod refusal;
-
 ghost use Rattle.input.specs.Told.{Parsed};
 
-pub use refusal::Refusal;
+use fit::Refusal;
 
 // The most bytes that an input may have.
 pub const MAX_INPUT: usize = 12000;

@@ -2,10 +2,11 @@
 #![tactic(auto)]
 
 ghost use Rattle.std.specs.Prelude.{◌≡◌};
+ghost use Rattle.fit.specs.Answer.{search_of};
 ghost use Rattle.page.specs.Puts.{Puts};
 ghost use Rattle.lines.specs.Lines.{ended, counts_line, refused_line, line_of, lines_of};
 
-use fit::Search;
+use fit::{Found, Refusal};
 use page::Page;
 
 // A number, and the line ends.
@@ -26,24 +27,23 @@ pub fn put_refused(page: &mut Page, name: &[u8], number: u32)
 }
 
 // `NAME TOTAL TRIED`.
-fn put_counts(page: &mut Page, name: &[u8], total: usize, tried: usize)
-    ensures { Puts page.old (counts_line name.now total tried) page.new }
+fn put_counts(page: &mut Page, name: &[u8], found: Found)
+    ensures { Puts page.old (counts_line name.now found.total found.tried) page.new }
 {
     page.put_text(name);
     page.put_text(b" ");
-    page.put_number(total as u64);
+    page.put_number(found.total as u64);
     page.put_text(b" ");
-    put_ended(page, tried as u64);
+    put_ended(page, found.tried as u64);
 }
 
 // The line of a searcher: the one or the other.
-pub fn put_line(page: &mut Page, name: &[u8], found: Search)
-    ensures { Puts page.old (line_of name.now found) page.new }
+pub fn put_line(page: &mut Page, name: &[u8], answer: Result<Found, Refusal>)
+    ensures { Puts page.old (line_of name.now (search_of answer)) page.new }
 {
-    if found.refusal != 0 {
-        put_refused(page, name, found.refusal);
-    } else {
-        put_counts(page, name, found.total, found.tried);
+    match answer {
+        Ok(found) => put_counts(page, name, found),
+        Err(refusal) => put_refused(page, name, refusal.number()),
     }
 }
 

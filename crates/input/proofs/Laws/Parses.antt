@@ -13,9 +13,10 @@ use Rattle.fit.proofs.Laws.Bools.{or_cases, or_left, or_right, is_false, le_or_l
 use Rattle.std.specs.Prelude.{Result, Ok, Err}
 use Rattle.std.specs.List.{IsSplitAt}
 use Rattle.input.specs.declared.Input.{Input}
-use Rattle.input.specs.declared.refusal.Refusal.TheVariants as refusals
-use Rattle.input.specs.declared.refusal.Refusal.{Refusal}
-use Rattle.input.specs.Told.{number_of, front_told, points_told, recording_told, Parsed}
+use Rattle.fit.specs.declared.refusal.Refusal.TheVariants as refusals
+use Rattle.fit.specs.declared.refusal.Refusal.{Refusal}
+use Rattle.fit.specs.Refused.{number_of}
+use Rattle.input.specs.Told.{front_told, points_told, recording_told, Parsed}
 use Rattle.input.specs.Inputs.{Front, delta_in, gamma_in, m_in, max_input, of_input, BadInput, GoodInput, front_by, front_of, points_by, points_in, recording_by, recording_in}
 
 module _ (input : List ℕ) where
@@ -70,7 +71,7 @@ module _ (input : List ℕ) where
 
   -- ---- what the parse answers
   pub refused_parse : BadInput input → Parsed input (Err refusals.BadInput)
-  unfolding front_by points_by recording_by
+  unfolding number_of front_by points_by recording_by
   refused_parse b = record {
     front = rw (input_bad b);
     points = rw (input_bad b);
