@@ -5,7 +5,7 @@ ghost use Rattle.std.specs.Prelude.{◌≡◌, ◌≤◌, get_or};
 ghost use Rattle.framed.specs.Head.{number_at, head_of};
 
 // The tolerances, the number of points and of readings, and for how many places and how many sums there is room in the lent lists.
-#[derive(Clone, Copy)]
+#[derive(Clone, Copy, Debug)]
 pub struct Head {
     pub delta: u32,
     pub gamma: u32,

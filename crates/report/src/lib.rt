@@ -52,7 +52,9 @@ fn with_list(page: &mut Page, input: &Input, list: &mut [u32])
     let found = plain::search(points, delta, gamma, recording, list, &mut []);
     lines::put_line(page, b"plain", found);
     put_others(page, input);
-    lines::put_places(page, &list[..found.total]);
+    if let Ok(found) = found {
+        lines::put_places(page, &list[..found.total]);
+    }
 }
 
 // The lines of the other searchers. They are proved to find the places that plain finds, so nothing is lent to them.

@@ -3,9 +3,9 @@ use mathlib.Core.Path.{◌≡◌, refl, sym, ap, ◌∙◌}
 use mathlib.Core.Bool.{Bool, true, ◌||◌}
 use mathlib.Core.Logic.{◌⊎◌, inl, inr, ⊎_elim, ◌↔◌}
 use mathlib.Core.List.{List}
-use Prim.Native.Nat.{ℕ, zero, suc, ◌+◌, ◌-◌, ◌*◌, ◌≤◌, ◌<◌}
+use Prim.Native.Nat.{ℕ, zero, suc, ◌+◌, ◌-◌, ◌≤◌, ◌<◌}
 use native.Mathlib.Omega.{arith}
-use lib.ListN.{length, get_or, take, drop, length-drop}
+use lib.ListN.{length, take, drop, length-drop}
 use lib.Seq.{take_all, drop-drop}
 use lib.Dec.{ltb}
 use borrow.Author.Tests.{lt-ltb, ltb-true}
@@ -17,7 +17,7 @@ use Rattle.fit.specs.declared.refusal.Refusal.TheVariants as refusals
 use Rattle.fit.specs.declared.refusal.Refusal.{Refusal}
 use Rattle.fit.specs.Refused.{number_of}
 use Rattle.input.specs.Told.{front_told, points_told, recording_told, Parsed}
-use Rattle.input.specs.Inputs.{Front, delta_in, gamma_in, m_in, max_input, of_input, BadInput, GoodInput, front_by, front_of, points_by, points_in, recording_by, recording_in}
+use Rattle.input.specs.Inputs.{Front, delta_in, gamma_in, m_in, max_input, of_input, BadInput, GoodInput, front_by, front_of, points_by, recording_by, recording_in}
 
 module _ (input : List ℕ) where
   -- the test, by its three parts

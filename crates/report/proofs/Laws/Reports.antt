@@ -14,10 +14,11 @@ use Rattle.fit.proofs.Laws.Listings.{overlay_is, length_overlay}
 use Rattle.fit.proofs.Laws.Refusals.{none_exactly}
 use Rattle.fit.proofs.Laws.Answers.{places_short, answer_accepted, answer_refused}
 use Rattle.input.specs.Inputs.{of_input}
-use Rattle.input.specs.Told.{number_of, Parsed}
+use Rattle.input.specs.Told.{Parsed}
 use Rattle.input.specs.declared.Input.{Input}
-use Rattle.input.specs.declared.refusal.Refusal.{Refusal}
-use Rattle.input.specs.declared.refusal.Refusal.TheVariants.{NoPoints, BadInput}
+use Rattle.fit.specs.Refused.{number_of}
+use Rattle.fit.specs.declared.refusal.Refusal.{Refusal}
+use Rattle.fit.proofs.Laws.Refused.{number_some}
 use Rattle.input.proofs.Laws.Parses.{parse_refused, parse_accepted, parse_read}
 use Rattle.page.specs.Puts.{Puts}
 use Rattle.page.specs.declared.Page.{Page}
@@ -54,17 +55,13 @@ module _ (delta gamma : ℕ) (x y : List ℕ) (tried : ℕ) (entry final : Lent)
           (omega (arith, total), rw total)
 
 -- ---- the whole input
-some_number : (r : Refusal) → number_of r ≡ 0 → ⊥
-some_number NoPoints e = omega (arith, e)
-some_number BadInput e = omega (arith, e)
-
 module _ (input : List ℕ) {p q : Page} where
   pub refused_report : {r : Refusal} → Parsed input (Err r) → Puts p (refused_line input_name (number_of r)) q → Puts p (report_of input) q
   unfolding report_by
   refused_report {r} e h = by_number (of_input input) (parse_refused input e)
     where
       by_number : (num : ℕ) → number_of r ≡ num → Puts p (report_by num input) q
-      by_number zero f = absurd (some_number r f)
+      by_number zero f = absurd (omega (arith, number_some r, f))
       by_number (suc num) f = rw f at h
 
   pub accepted_report : {i : Input} → Parsed input (Ok i) → Puts p (report_for i) q → Puts p (report_of input) q
