@@ -39,9 +39,8 @@ impl<'a> Page<'a> {
     pub fn put_number(&mut self, x: u64)
         ensures { Puts self.old (decimal x) self.new }
     {
-        let mut digits = [0u8; 20];
-        let count = io::decimal(x, &mut digits);
-        self.put_text(&digits[..count]);
+        let mut digits = itoa::Buffer::new();
+        self.put_text(digits.format(x).as_bytes());
     }
 
     // The text.
