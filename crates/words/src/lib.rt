@@ -3,14 +3,12 @@
 #![tactic(auto)]
 
 ghost use Rattle.std.specs.Prelude.{◌≡◌, ◌≤◌};
-ghost use Rattle.fit.specs.Answer.{lent};
 ghost use Rattle.noting.specs.Lists.{lent_in, Same};
 ghost use Rattle.scan.specs.Following.{Scans};
 ghost use Rattle.words.specs.Most.{max_words};
 
 use fit::Found;
-use noting::Lists;
-use noting::Lists;
+use noting::{Lists, Lists};
 use scan::Scan;
 
 // The most words that the counters take: 64 counters of 15 bits, four to a word.
