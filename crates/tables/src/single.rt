@@ -7,19 +7,14 @@ ghost use Rattle.jumps.specs.Least.{greatest};
 ghost use Rattle.jumps.specs.Jumps.{last_jump, next_jump, seen_jump, after_jump};
 ghost use Rattle.tables.specs.Holding.{Holds, Usable};
 
+use super::{filling, seeking};
+
 // Document 01's number of the greatest of m points that reading a suits, that is, is near; 0 if there is none.
 fn greatest_near(spans: &[u16; 256], m: usize, a: u8) -> usize
     requires { m ≤ max_points }
     ensures { (result ≡ greatest (λ i. (rule_in spans.now).fit i a) m) × (result ≤ m) }
 {
-    let mut i = m;
-    while 0 < i {
-        if spans::suits(spans, i - 1, a) {
-            return i;
-        }
-        i -= 1;
-    }
-    0
+    seeking::greatest(m, |i| spans::suits(spans, i, a))
 }
 
 // The last-reading jump for reading a.
@@ -51,21 +46,14 @@ fn jump_table(spans: &[u16; 256], m: usize, top: usize) -> [u8; 256]
     requires { (m ≤ max_points) × (m ≤ top) × (top ≤ max_points + 1) }
     ensures { Holds (λ a. top - greatest (λ i. (rule_in spans.now).fit i a) m) 256 256 result }
 {
-    let mut table = [0u8; 256];
-    let mut a: usize = 0;
-    while a < 256 {
-        let jump = top - greatest_near(spans, m, a as u8);
-        table[a] = jump as u8;
-        a += 1;
-    }
-    table
+    filling::table_of(256, |a| (top - greatest_near(spans, m, a as u8)) as u8)
 }
 
 // The entry of reading a.
 pub fn jump_at(table: &[u8; 256], a: u8) -> usize
     ensures { (result ≡ get_or table.now a 0) × (result ≤ highest) }
 {
-    reading::index(table[reading::index(a)])
+    usize::from(table[usize::from(a)])
 }
 
 // The jumps after a tried window, for all last readings.
@@ -92,13 +80,7 @@ pub fn last_table<'a>(spans: &'a [u16; 256], m: usize, seen: &'a [u8; 256]) -> [
     requires { Holds (seen_jump (rule_in spans.now).fit m) 256 256 seen.now × (m ≤ max_points) × (1 ≤ m) }
     ensures { Holds (last_jump (rule_in spans.now).fit m) 256 256 result }
 {
-    let mut table = [0u8; 256];
-    let mut at: usize = 0;
-    while at < 256 {
-        table[at] = last_of(spans, m, at as u8, seen[at]);
-        at += 1;
-    }
-    table
+    filling::table_of(256, |a| last_of(spans, m, a as u8, seen[a]))
 }
 
 // The next-reading jumps of all readings.
@@ -109,26 +91,12 @@ pub fn next_table(spans: &[u16; 256], m: usize) -> [u8; 256]
     jump_table(spans, m, m + 1)
 }
 
-// Document 01's number of the greatest of the first n points that differs from p by at most k; 0 if there is none.
-fn greatest_alike(points: &[u8], k: u32, p: u8, n: usize) -> usize
-    requires { n ≤ length points.now }
-    ensures { (result ≡ greatest (λ i. alike k (get_or points.now i 0) p) n) × (result ≤ n) }
-{
-    let mut i = n;
-    while 0 < i {
-        if reading::are_alike(k, points[i - 1], p) {
-            return i;
-        }
-        i -= 1;
-    }
-    0
-}
-
 // The after-check jump.
 pub fn after_jump(points: &[u8], d: u32) -> usize
     requires { Usable d points.now }
     ensures { result ≡ after_jump d points.now }
 {
     let m = points.len();
-    m - greatest_alike(points, 2 * d, points[m - 1], m - 1)
+    let last = points[m - 1];
+    m - seeking::greatest(m - 1, |i| reading::are_alike(2 * d, points[i], last))
 }
