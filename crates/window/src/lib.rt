@@ -8,4 +8,4 @@ mod trying;
 
 pub use check::{check_at, count_windows, is_place};
 pub use noting::{note, note_none};
-pub use trying::{try_at, try_fitting};
+pub use trying::{note_score, try_at, try_fitting};

@@ -7,7 +7,7 @@ use Rattle.window.proofs.trying.try_at.Goals as goal
 
 pub returns-then-suits : goal.returns-then-suits
 returns-then-suits c =
-    score_tried _ _ _ _ _ _ c.requires.le_m.2 c.requires.le_m.3 (c.score_at-score.ensures _) c.note_score.ensures
+    score_tried _ _ _ _ _ _ c.requires.le_m.1 c.requires.le_m.2 (c.score_at-score.ensures _) c.note_score.ensures
 
 pub returns : goal.returns
 returns c =

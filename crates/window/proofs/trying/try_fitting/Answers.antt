@@ -6,6 +6,6 @@ use Rattle.window.proofs.trying.try_fitting.Goals as goal
 
 pub returns : goal.returns
 returns c = record {
-  tried = λ fits. score_tried _ _ _ _ _ _ c.requires.m_le_max_points.1 c.requires.m_le_max_points.2 (score_near _ _ _ _ _ _ (sym fits) _ refl c.fitting_score-score.ensures) c.note_score.ensures;
+  tried = λ fits. score_tried _ _ _ _ _ _ c.requires.inside.0 c.requires.inside.1 (score_near _ _ _ _ _ _ (sym fits) _ refl c.fitting_score-score.ensures) c.note_score.ensures;
   total_le_tried = rw c.note_score.ensures.counts (λ order. order_one _ _ _ order, tried_one _ _ _);
 }
