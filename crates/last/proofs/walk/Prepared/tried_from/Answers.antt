@@ -1,8 +1,8 @@
--- `last::tried_from` meets its contract: the jumps lead from where it stands to where they led from the start. Assumes nothing.
+-- `Prepared::tried_from` meets its contract: the jumps lead from where it stands to where they led from the start. Assumes nothing.
 use mathlib.Core.Path.{sym, ◌∙◌}
 use native.Mathlib.Omega.{arith}
 use Rattle.last.proofs.Laws.Seeking.{seek_end, seek_here, seek_on}
-use Rattle.last.proofs.walk.tried_from.Goals as goal
+use Rattle.last.proofs.walk.Prepared.tried_from.Goals as goal
 
 pub returns-then-jump-eq0 : goal.returns-then-jump-eq0
 returns-then-jump-eq0 c =
