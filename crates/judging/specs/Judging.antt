@@ -1,5 +1,5 @@
 -- Why is it no place? "a public question exposes it for one s" (document 02, #106): the window check's answer. Assumes nothing.
-use Rattle.std.specs.Prelude.{ℕ, zero, suc, ◌+◌, List, [], ◌∷◌, ◌++◌, length, ltb, Result, Ok, Err}
+use Rattle.std.specs.Prelude.{Result, Ok, Err, ℕ, zero, suc, ◌+◌, List, [], ◌∷◌, ◌++◌, length, ltb}
 use Rattle.fit.specs.Chain.{Reason, first_reason}
 use Rattle.fit.specs.Refusal.{search_reasons}
 use Rattle.fit.specs.Verdict.{Told, told_of}
@@ -23,7 +23,7 @@ check_reasons delta gamma x y s = search_reasons delta gamma x y ++ (no_window (
 unfoldable pub check_refusal : ℕ → ℕ → List ℕ → List ℕ → ℕ → ℕ
 check_refusal delta gamma x y s = first_reason (check_reasons delta gamma x y s)
 
--- an answer in numbers: the verdict by the number and the values of its case; or the refusal's number, and zeros
+-- an answer in numbers: the verdict by the number and the values of its case; refused, the number of the refusal, and zeros
 abbrev pub told_all : Result Verdict Refusal → FlatVerdict
 told_all (Ok v) = record { refusal = 0; kind = (told_of v).kind; point = (told_of v).point; sum = (told_of v).sum }
 told_all (Err e) = record { refusal = number_of e; kind = 0; point = 0; sum = 0 }

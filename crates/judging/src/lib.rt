@@ -8,15 +8,35 @@ ghost use Rattle.judging.specs.Judging.{of_window, check_refusal, told_all, chec
 
 use fit::{Refusal, Verdict};
 
-// The answer for C, which has no enum: `kind` is 0 where a point is far, 1 where the window is a place, and 2 where its sum exceeds g. `point` and
-// `sum` are 0 where the kind has none, and all three where the call is refused.
+// An answer in numbers alone, for C, which has no enum: `kind` is 0 where a point is far, 1 where the window is a place, and 2 where its sum exceeds g.
+// `point` and `sum` are 0 where the kind has none, and all three where the call is refused.
 #[repr(C)]
-#[derive(Clone, Copy, Debug, Default, PartialEq, Eq)]
+#[derive(Clone, Copy, Debug, PartialEq, Eq)]
 pub struct FlatVerdict {
     pub refusal: u32,
     pub kind: u32,
     pub point: usize,
     pub sum: u32,
+}
+
+impl From<Result<Verdict, Refusal>> for FlatVerdict {
+    ghost from_gives = { λ answer r. r ≡ told_all answer };
+
+    #[tactic(auto, unfolding(fit::specs::Verdict::told_of))]
+    fn from(answer: Result<Verdict, Refusal>) -> FlatVerdict {
+        let (refusal, kind, point, sum) = match answer {
+            Ok(Verdict::Far(p)) => (0, 0, p, 0),
+            Ok(Verdict::Fits(sum)) => (0, 1, 0, sum),
+            Ok(Verdict::Over(sum)) => (0, 2, 0, sum),
+            Err(refusal) => (refusal.number(), 0, 0, 0),
+        };
+        FlatVerdict {
+            refusal,
+            kind,
+            point,
+            sum,
+        }
+    }
 }
 
 // What the check of the window at s answers.
@@ -46,36 +66,5 @@ fn of_window(m: usize, recording: &[u8], s: usize) -> Result<(), Refusal>
         Ok(())
     } else {
         Err(Refusal::OutOfRange)
-    }
-}
-
-impl From<Result<Verdict, Refusal>> for FlatVerdict {
-    ghost use Rattle.std.specs.Prelude.{◌≡◌};
-    ghost use Rattle.judging.specs.Judging.{told_all};
-
-    ghost from_gives = { λ answer r. r ≡ told_all answer };
-
-    #[tactic(auto, unfolding(fit::specs::Verdict::told_of))]
-    fn from(answer: Result<Verdict, Refusal>) -> FlatVerdict {
-        match answer {
-            Ok(Verdict::Fits(sum)) => FlatVerdict {
-                kind: 1,
-                sum,
-                ..FlatVerdict::default()
-            },
-            Ok(Verdict::Far(point)) => FlatVerdict {
-                point,
-                ..FlatVerdict::default()
-            },
-            Ok(Verdict::Over(sum)) => FlatVerdict {
-                kind: 2,
-                sum,
-                ..FlatVerdict::default()
-            },
-            Err(refusal) => FlatVerdict {
-                refusal: refusal.number(),
-                ..FlatVerdict::default()
-            },
-        }
     }
 }

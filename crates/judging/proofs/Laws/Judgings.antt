@@ -1,6 +1,6 @@
 -- Laws of the question about one window: when it is refused, what each of its answers says, and that there is no second. Assumes nothing.
 use Prim.Native.Nat.{ℕ, zero, suc, ◌+◌, ◌≤◌, ◌<◌}
-use mathlib.Core.Path.{◌≡◌, refl, sym, ap, ap₂, ◌∙◌}
+use mathlib.Core.Path.{◌≡◌, refl, sym, ap, ◌∙◌}
 use mathlib.Core.Bool.{true, false, ◌||◌}
 use mathlib.Core.Logic.Iff
 use mathlib.Core.Logic.{◌⊎◌, inl, inr, ⊎_elim, ◌↔◌}
@@ -21,19 +21,19 @@ use Rattle.fit.specs.Verdict.{Told, far_at, fits_with, over_with, told_of, Break
 use Rattle.limits.specs.declared.checked.Checked.{Checked}
 use Rattle.fit.specs.Refused.{number_of}
 use Rattle.fit.specs.declared.refusal.Refusal.{Refusal}
-use Rattle.fit.proofs.Laws.Refused.{number_some, number_only}
 use Rattle.fit.specs.declared.verdict.Verdict.{Verdict}
 use Rattle.fit.specs.declared.verdict.Verdict.TheVariants.{Fits, Far, Over}
 use Rattle.fit.proofs.Laws.Bools.{is_false, not_both, or_cases, at_most}
 use Rattle.fit.proofs.Laws.Chains.{has, behind, ahead, first_exactly, zero_exactly, in_order, joined, none_both, one_spared}
 use Rattle.fit.proofs.Laws.Refusals.{search_spared}
-use Rattle.limits.proofs.Laws.Constructed.{told_spans}
+use Rattle.fit.proofs.Laws.Refused.{number_some, number_only}
+use Rattle.limits.proofs.Laws.Constructed.{told_first, told_later, told_spans}
+use Rattle.std.proofs.Common.{Result, Ok, Err}
+use Rattle.std.specs.Result.{IsErrAnd}
+use Rattle.std.proofs.lemmas.Result.{err_from_is_err_and}
 use Rattle.fit.proofs.Laws.Places.{place_in}
 use Rattle.fit.proofs.Laws.Verdicts.{told_only, told_fits, told_far, told_over, fits_place, far_first, over_sum}
 use Rattle.fit.proofs.Laws.Compiled.{compiled_verdict}
-use Rattle.std.specs.Prelude.{Result, Ok, Err}
-use Rattle.std.specs.Result.{IsErrAnd}
-use Rattle.std.proofs.lemmas.Result.{err_from_is_err_and}
 use Rattle.judging.specs.declared.FlatVerdict.{FlatVerdict}
 use Rattle.judging.specs.Judging.{no_window, of_window, check_reasons, check_refusal, told_all, check_answer}
 
@@ -92,99 +92,98 @@ module _ (delta gamma : ℕ) (x y : List ℕ) (s : ℕ) where
   check_in_order = in_order (check_reasons delta gamma x y s)
 
   -- as code has it
-  pub check_joined : check_refusal delta gamma x y s ≡ or_else (search_refusal delta gamma x y) (of_window (length x) (length y) s)
+  check_joined : check_refusal delta gamma x y s ≡ or_else (search_refusal delta gamma x y) (of_window (length x) (length y) s)
   unfolding check_refusal search_refusal of_window
   check_joined = joined (search_reasons delta gamma x y) (no_window (length x) (length y) s ∷ []) refl
+
+  -- past the refusals of a search the window decides
+  pub check_late : search_refusal delta gamma x y ≡ 0 → (k : ℕ) → k ≡ of_window (length x) (length y) s → k ≡ check_refusal delta gamma x y s
+  check_late none k h = told_later _ _ _ k check_joined none h
+
+  pub check_first : (e : Refusal) → number_of e ≡ search_refusal delta gamma x y → number_of e ≡ check_refusal delta gamma x y s
+  check_first e h = told_first _ _ _ e check_joined h
 
 -- what the question knows past its refusals
 pub record CheckPosed (delta gamma : ℕ) (x y : List ℕ) (s : ℕ) (q : Checked) : Type 0 where
   pub known : CheckAsked delta gamma x y s
   pub carries : Carries delta gamma x q
 
-pub check_posed : (delta gamma : ℕ) (x y : List ℕ) (s : ℕ) {q : Checked} → (search_refusal delta gamma x y ≡ 0) × Carries delta gamma x q → 0 ≡ of_window (length x) (length y) s
-    → CheckPosed delta gamma x y s q
-unfolding or_else
+pub check_posed : (delta gamma : ℕ) (x y : List ℕ) (s : ℕ) {q : Checked} → (search_refusal delta gamma x y ≡ 0) × Carries delta gamma x q
+    → 0 ≡ of_window (length x) (length y) s → CheckPosed delta gamma x y s q
 check_posed delta gamma x y s e w =
-    let none : check_refusal delta gamma x y s ≡ 0 = check_joined delta gamma x y s ∙ ap₂ or_else e.0 (sym w) in
-    record { known = (check_none_exactly delta gamma x y s).0 none; carries = e.1 }
+    record { known = (check_none_exactly delta gamma x y s).0 (sym (check_late delta gamma x y s e.0 0 w)); carries = e.1 }
 
 -- the spans that its profile is compiled to serve the window check, and this answers what the definition says
-module _ {delta gamma : ℕ} {x y : List ℕ} {s : ℕ} {q : Checked} (p : CheckPosed delta gamma x y s q) {d m : ℕ} {spans : List ℕ}
-    (small : d ≡ d_of q.tolerance.delta q.tolerance.gamma) (made : spans ≡ spans_of d (points_of q.profile)) (points : m ≡ q.profile.m) where
+module _ {delta gamma : ℕ} {x y : List ℕ} {s : ℕ} {q : Checked} (p : CheckPosed delta gamma x y s q) {d : ℕ} {spans : List ℕ}
+    (small : d ≡ d_of q.tolerance.delta q.tolerance.gamma) (made : spans ≡ spans_of d (points_of q.profile)) where
   own : spans ≡ spans_of (d_of delta gamma) x
   own = told_spans delta gamma x p.carries p.known.ok.asked.few small made
 
-  all_points : m ≡ length x
-  all_points = points ∙ p.carries.profile.m_is
+  pub check_ready : (m : ℕ) → m ≡ q.profile.m → s + m ≤ length y
+  check_ready m e = omega (arith, e, p.carries.profile.m_is, p.known.inside)
 
-  pub check_inside : s + m ≤ length y
-  check_inside = omega (arith, p.known.inside, all_points)
-
-  pub check_told : (v : Verdict) → told_of v ≡ verdict_by (rule_in spans) m gamma y s → told_of v ≡ verdict_of delta gamma x y s
-  check_told v t = rw all_points at t ∙ compiled_verdict delta gamma x spans own p.known.ok.asked.few y s
+  pub check_told : (m : ℕ) → m ≡ q.profile.m → (v : Verdict) → told_of v ≡ verdict_by (rule_in spans) m gamma y s → told_of v ≡ verdict_of delta gamma x y s
+  check_told m e v t = rw (e ∙ p.carries.profile.m_is) at t ∙ compiled_verdict delta gamma x spans own p.known.ok.asked.few y s
 
 -- ---- as the code answers: refused, and not
-pub check_refused : (num : ℕ) (t : Told) (e : Refusal) → number_of e ≡ num → told_all (Err e) ≡ check_answer num t
+pub check_refused : (num : ℕ) (e : Refusal) (t : Told) → number_of e ≡ num → told_all (Err e) ≡ check_answer num t
 unfolding check_answer
-check_refused zero t e h = absurd (omega (arith, number_some e, h))
-check_refused (suc num) t e h = rw h
+check_refused zero e t h = absurd (omega (arith, number_some e, h))
+check_refused (suc num) e t h = rw h
 
--- a refusal that is handed on
-pub check_handed : (num : ℕ) (t : Told) (r : Result Verdict Refusal) (e : Refusal) → IsErrAnd r (λ x. x ≡ e) → number_of e ≡ num → told_all r ≡ check_answer num t
-check_handed num t r e q h = let p = err_from_is_err_and r q in rw (p.1, p.2) (check_refused num t e h)
+-- handed on
+pub check_handed : (num : ℕ) (r : Result Verdict Refusal) (e : Refusal) (t : Told) → IsErrAnd r (λ d. d ≡ e) → number_of e ≡ num → told_all r ≡ check_answer num t
+check_handed num r e t q h = let p = err_from_is_err_and r q in rw (p.1, p.2) (check_refused num e t h)
 
-pub check_granted : {delta gamma : ℕ} {x y : List ℕ} {s : ℕ} → CheckAsked delta gamma x y s → (v : Verdict) (t : Told) → told_of v ≡ t
-    → told_all (Ok v) ≡ check_answer (check_refusal delta gamma x y s) t
+pub check_granted : (num : ℕ) (v : Verdict) (t : Told) → num ≡ 0 → told_of v ≡ t → told_all (Ok v) ≡ check_answer num t
 unfolding check_answer
-check_granted {delta} {gamma} {x} {y} {s} known v t q = rw ((check_none_exactly delta gamma x y s).1 known, q)
+check_granted num v t z q = rw (z, q)
 
 -- ---- what the answer r says
-told_verdict : (v : Verdict) {f : FlatVerdict} → told_all (Ok v) ≡ f → told_of v ≡ record { kind = f.kind; point = f.point; sum = f.sum }
-told_verdict v e = ap (λ (f : FlatVerdict). record { kind = f.kind; point = f.point; sum = f.sum }) e
+ok_same : {v v' : Verdict} → ◌≡◌ {A = Result Verdict Refusal} (Ok v) (Ok v') → v ≡ v'
+ok_same e = cc
 
 all_only : (r r' : Result Verdict Refusal) → told_all r ≡ told_all r' → r ≡ r'
-all_only (Ok v) (Ok v') e = ap (λ (u : Verdict). Ok u) (told_only v v' (told_verdict v e))
-all_only (Ok v) (Err e') e = absurd (omega (arith, number_some e', ap (λ (f : FlatVerdict). f.refusal) e))
+all_only (Ok v) (Ok v') e =
+    ap (λ u. Ok u) (told_only v v' (ap (λ (f : FlatVerdict). record { kind = f.kind; point = f.point; sum = f.sum }) e))
+all_only (Ok v) (Err d') e = absurd (omega (arith, number_some d', ap (λ (f : FlatVerdict). f.refusal) e))
 all_only (Err d) (Ok v') e = absurd (omega (arith, number_some d, ap (λ (f : FlatVerdict). f.refusal) e))
-all_only (Err d) (Err e') e = ap (λ (u : Refusal). Err u) (number_only d e' (ap (λ (f : FlatVerdict). f.refusal) e))
+all_only (Err d) (Err d') e = ap (λ u. Err u) (number_only d d' (ap (λ (f : FlatVerdict). f.refusal) e))
 
 -- there is no second answer
 pub no_second_judged : (definition : FlatVerdict) (r r' : Result Verdict Refusal) → told_all r ≡ definition → told_all r' ≡ definition → r ≡ r'
 no_second_judged definition r r' e e' = all_only r r' (e ∙ sym e')
 
--- which it is, by the number
-as_refused : (r : Result Verdict Refusal) (num : ℕ) → (told_all r).refusal ≡ suc num → (e : Refusal) × (r ≡ Err e) × (number_of e ≡ suc num)
-as_refused (Ok v) num z = absurd (omega (arith, z))
-as_refused (Err e) num z = (e, refl, z)
-
-as_granted : (r : Result Verdict Refusal) → (told_all r).refusal ≡ 0 → (v : Verdict) × (r ≡ Ok v)
-as_granted (Ok v) z = (v, refl)
-as_granted (Err e) z = absurd (omega (arith, number_some e, z))
-
 module _ (delta gamma : ℕ) (x y : List ℕ) (s : ℕ) (r : Result Verdict Refusal) (a : told_all r ≡ check_answer (check_refusal delta gamma x y s) (verdict_of delta gamma x y s)) where
-  -- refused: by the refusal that has the number, and in numbers that and zeros
-  pub refused_none : (num : ℕ) → check_refusal delta gamma x y s ≡ suc num
-      → (told_all r ≡ record { refusal = suc num; kind = 0; point = 0; sum = 0 }) × ((e : Refusal) × (r ≡ Err e) × (number_of e ≡ suc num))
+  -- refused: by the refusal that has the number
+  pub refused_none : (num : ℕ) → check_refusal delta gamma x y s ≡ suc num → (e : Refusal) × (r ≡ Err e) × (number_of e ≡ suc num)
   unfolding check_answer
-  refused_none num e = let q = rw e at a in (q, as_refused r num (ap (λ (f : FlatVerdict). f.refusal) q))
+  refused_none num e = by_result r refl
+    where
+      by_result : (q : Result Verdict Refusal) → r ≡ q → (d : Refusal) × (r ≡ Err d) × (number_of d ≡ suc num)
+      by_result (Ok v) is = absurd (omega (arith, ap (λ (f : FlatVerdict). f.refusal) (rw (is, e) at a)))
+      by_result (Err d) is = (d, is, ap (λ (f : FlatVerdict). f.refusal) (rw (is, e) at a))
 
   module _ (known : CheckAsked delta gamma x y s) where
     granted : told_all r ≡ record { refusal = 0; kind = (verdict_of delta gamma x y s).kind; point = (verdict_of delta gamma x y s).point; sum = (verdict_of delta gamma x y s).sum }
     unfolding check_answer
     granted = rw ((check_none_exactly delta gamma x y s).1 known) at a
 
-    -- not refused: a verdict
-    pub granted_none : (v : Verdict) × (r ≡ Ok v)
-    granted_none = as_granted r (ap (λ (f : FlatVerdict). f.refusal) granted)
+    -- not refused: a verdict, which is the definition's
+    pub granted_none : (v : Verdict) × (r ≡ Ok v) × (told_of v ≡ verdict_of delta gamma x y s)
+    granted_none = by_result r refl
+      where
+        by_result : (q : Result Verdict Refusal) → r ≡ q → (v : Verdict) × (r ≡ Ok v) × (told_of v ≡ verdict_of delta gamma x y s)
+        by_result (Ok v) is = (v, is, ap (λ (f : FlatVerdict). record { kind = f.kind; point = f.point; sum = f.sum }) (rw is at granted))
+        by_result (Err d) is = absurd (omega (arith, number_some d, ap (λ (f : FlatVerdict). f.refusal) (rw is at granted)))
 
-    verdict_is : (v : Verdict) → r ≡ Ok v → told_of v ≡ verdict_of delta gamma x y s
-    verdict_is v is = told_verdict v (sym (ap told_all is) ∙ granted)
+    abbrev verdict : Verdict
+    verdict = granted_none.0
 
     by_case : (case : Verdict) (t : Told) {A : Type 0} → told_of case ≡ t → (verdict_of delta gamma x y s ≡ t) ↔ A → (r ≡ Ok case) ↔ A
     by_case case t e f = (
-      λ q. f.0 (sym (verdict_is case q) ∙ e),
-      λ h. let g = granted_none in
-          g.1 ∙ ap (λ (u : Verdict). Ok u) (told_only g.0 case (verdict_is g.0 g.1 ∙ f.1 h ∙ sym e)),
+      λ q. f.0 (sym granted_none.2 ∙ ap told_of (ok_same (sym granted_none.1 ∙ q)) ∙ e),
+      λ h. granted_none.1 ∙ ap (λ u. Ok u) (told_only verdict case (granted_none.2 ∙ f.1 h ∙ sym e)),
     )
 
     -- "fits, with its sum": exactly where s is a place, and the sum is the window's
@@ -204,13 +203,13 @@ module _ (delta gamma : ℕ) (x y : List ℕ) (s : ℕ) (r : Result Verdict Refu
 
     -- so a window that no search lists is told its course or, where all its courses are near, its sum
     abbrev Reason : Type 0
-    Reason = BreaksAt (fit_of (d_of delta gamma) x) y s (length x) (told_all r).point
-        ⊎ (EachNear × (g_of (length x) delta gamma < sum_diff x y s) × (sum_diff x y s ≡ (told_all r).sum))
+    Reason = BreaksAt (fit_of (d_of delta gamma) x) y s (length x) (told_of verdict).point
+        ⊎ (EachNear × (g_of (length x) delta gamma < sum_diff x y s) × (sum_diff x y s ≡ (told_of verdict).sum))
 
     pub why_missing : (Memᴰ s (places delta gamma x y) → ⊥) → Reason
-    why_missing none = by_verdict granted_none.0 granted_none.1
+    why_missing none = by_verdict verdict granted_none.1 refl
       where
-        by_verdict : (v : Verdict) → r ≡ Ok v → Reason
-        by_verdict (Fits v) e = absurd (none (place_in delta gamma x y s ((fits_is v).0 e).0))
-        by_verdict (Far p) e = inl (rw (e, told_far p) ((far_is p).0 e))
-        by_verdict (Over v) e = let o = (over_is v).0 e in inr (o.0, o.1, rw (e, told_over v) o.2)
+        by_verdict : (v : Verdict) → r ≡ Ok v → verdict ≡ v → Reason
+        by_verdict (Fits v) q e = absurd (none (place_in delta gamma x y s ((fits_is v).0 q).0))
+        by_verdict (Far p) q e = inl (rw (e, told_far p) ((far_is p).0 q))
+        by_verdict (Over v) q e = let o = (over_is v).0 q in inr (o.0, o.1, rw (e, told_over v) o.2)
