@@ -17,12 +17,7 @@ pub struct Prepared {
     pub seen: [u8; 256],
 }
 
-pub fn prepare(
-    points: &[u8],
-    delta: u32,
-    gamma: u32,
-    recording: &[u8],
-) -> Result<Prepared, Refusal>
+pub fn prepare(points: &[u8], delta: u32, gamma: u32, recording: &[u8]) -> Result<Prepared, Refusal>
     ensures { Gives (search_refusal delta gamma points.now recording.now) (GoesBy delta gamma points.now) result }
 {
     let checked = limits::checked_search(points, delta, gamma, recording)?;

@@ -1,6 +1,5 @@
 -- `last::over_spans` meets its contract: it goes along the walk, a window at a time. Assumes nothing.
 use Prim.Native.Nat.{◌-◌}
-use mathlib.Core.Path.{◌≡◌}
 use lib.ListN.{length}
 use Rattle.fit.specs.Spans.{rule_in}
 use Rattle.fit.specs.Answer.{sought_by, lent}

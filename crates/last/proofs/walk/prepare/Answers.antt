@@ -1,5 +1,5 @@
 -- `last::prepare` meets its contract: refused as its checked input is, or what the walk goes by. Assumes nothing.
-use mathlib.Core.Path.{sym, ◌∙◌}
+use mathlib.Core.Path.{◌∙◌}
 use native.Mathlib.Omega.{arith}
 use Rattle.fit.proofs.Laws.Refused.{handed}
 use Rattle.limits.proofs.Laws.Constructed.{told_spans}
@@ -28,7 +28,8 @@ last_table-table-requires c =
 pub returns : goal.returns
 returns c =
     let at = passed _ _ _ _ c.in_ok-checked.ensures in
-    let made = c.spans_of-spans.ensures in
-    (c.in_ok-checked.ensures.0,
+    let made = c.spans_of-spans.ensures in (
+      c.in_ok-checked.ensures.0,
       prepared_made _ _ _ _ (told_spans _ _ _ at.carries at.ok.asked.few c.d-d.ensures made.rows) (made.points ∙ at.carries.profile.m_is)
-          c.last_table-table.ensures c.seen_table-seen.ensures)
+          c.last_table-table.ensures c.seen_table-seen.ensures,
+    )
