@@ -1,6 +1,7 @@
 -- `last::over_spans` meets its contract: it goes along the walk, a window at a time. Assumes nothing.
-use mathlib.Core.Path.{refl}
+use mathlib.Core.Path.{◌≡◌, refl}
 use native.Mathlib.Omega.{arith}
+use Rattle.fit.specs.Answer.{nothing}
 use Rattle.fit.proofs.Laws.Rules.{by_below}
 use Rattle.fit.proofs.Laws.Alongs.{along_start, along_tried, along_same, along_on, along_end}
 use Rattle.last.proofs.Laws.Walks.{last_rises, last_has}
@@ -10,8 +11,10 @@ use Rattle.last.proofs.over_spans.Goals as goal
 pub loop-q-init : goal.loop-q-init
 loop-q-init c =
     let known = c.requires in
-    let first = stands_first _ _ _ _ _ _ known.0 (λ i. omega (arith, c.type_inv.recording i)) _ c.tried_from-q.ensures in
-    (first.0, along_on first.1 (omega arith) (along_start _ _ 0 _ known.1))
+    let zeros = c.default-found.ensures in
+    let none : c.default-found.result ≡ nothing = λ i. record { total = zeros.0 i; tried = zeros.1.0 i; least = zeros.1.1 i } in
+    let first = stands_first _ _ _ _ _ _ known (λ i. omega (arith, c.type_inv.recording i)) _ c.tried_from-q.ensures in
+    (first.0, along_on first.1 (omega arith) (along_start _ _ 0 _ none))
 
 pub loop-q-smaller : goal.loop-q-smaller
 loop-q-smaller c =
