@@ -5,12 +5,14 @@ mod step;
 
 ghost use Rattle.std.specs.Prelude.{◌≡◌, length};
 ghost use Rattle.fit.specs.Spans.{rule_in};
-ghost use Rattle.fit.specs.Answer.{sought_by, lent, told, Answer};
+ghost use Rattle.fit.specs.Answer.{sought_by, told, Answer};
+ghost use Rattle.noting.specs.Lists.{lent_in, Same};
 ghost use Rattle.leaping.specs.Walk.{maximal_walk};
 ghost use Rattle.leaping.specs.Walking.{Walkable};
 
 use comparing::Compared;
 use fit::Found;
+use noting::Lists;
 use spans::Spans;
 
 // Goes along the walk, with what it goes by: the spans of the profile, the next-reading jumps of all readings, the order in which points are
@@ -23,14 +25,14 @@ pub fn walk<'a>(
     next: &[u8; 256],
     compared: &'a Compared,
     recording: &[u8],
-    list: &mut [u32],
-    sums: &mut [u16],
+    lists: &mut Lists,
 ) -> Found
     requires walkable { Walkable d gamma points.now recording.now spans.now.rows next.now compared.now.order compared.now.jumps }
     requires same_points { spans.now.m ≡ length points.now }
-    ensures { Answer 0 (sought_by (rule_in spans.now.rows) (length points.now) gamma recording.now)
+    ensures answer { Answer 0 (sought_by (rule_in spans.now.rows) (length points.now) gamma recording.now)
         (length (maximal_walk d points.now recording.now))
-        (lent list.old sums.old) (told result) (lent list.new sums.new) }
+        (lent_in lists.old) (told result) (lent_in lists.new) }
+    ensures same { Same lists.old lists.new }
 {
     let m = points.len();
     let full = tables::full_jump(points, d);
@@ -49,7 +51,7 @@ pub fn walk<'a>(
             // the jump is looked up before the window is tried: so the compiler keeps in registers what each step needs
             let jump = step::compared_jump(m, compared, full, leading);
             let longer = tables::jump_at(next, recording[e]).max(jump);
-            found = step::try_compared(spans, gamma, recording, list, sums, s, leading, found);
+            found = step::try_compared(spans, gamma, recording, lists, s, leading, found);
             e += longer;
         } else {
             // most windows fall at this point
@@ -59,7 +61,7 @@ pub fn walk<'a>(
     }
     // after the last window there is no reading
     if e == recording.len() {
-        return window::try_at(spans, gamma, recording, list, sums, e - m, found);
+        return window::try_at(spans, gamma, recording, lists, e - m, found);
     }
     found
 }

@@ -3,7 +3,8 @@ ghost use Rattle.std.specs.Prelude.{◌≡◌, true, false, cond, ◌+◌, ◌�
 ghost use Rattle.fit.specs.Rule.{all_fit, is_place_by};
 ghost use Rattle.fit.specs.Refusal.{max_points, max_gamma};
 ghost use Rattle.fit.specs.Spans.{rule_in};
-ghost use Rattle.fit.specs.Answer.{sought_by, lent, Tried};
+ghost use Rattle.fit.specs.Answer.{sought_by, Tried};
+ghost use Rattle.noting.specs.Lists.{lent_in, Same};
 ghost use Rattle.tables.specs.Holding.{Holds};
 ghost use Rattle.comparing.specs.Leading.{leading};
 ghost use Rattle.comparing.specs.Order.{compare_order};
@@ -12,6 +13,7 @@ ghost use Rattle.leaping.specs.Walk.{near_at};
 
 use comparing::Compared;
 use fit::Found;
+use noting::Lists;
 use spans::Spans;
 
 // How many points, in compare order, are near in the window at s before one that is not, where the first is.
@@ -41,8 +43,7 @@ pub(crate) fn try_compared(
     spans: &Spans,
     gamma: u32,
     recording: &[u8],
-    list: &mut [u32],
-    sums: &mut [u16],
+    lists: &mut Lists,
     s: usize,
     leading: usize,
     before: Found,
@@ -51,13 +52,14 @@ pub(crate) fn try_compared(
     requires s_bound { (s < 2 ^ 32) × (before.total < 2 ^ 32) × (before.tried < 2 ^ 32) }
     requires s_value { (leading < spans.now.m → is_place_by (rule_in spans.now.rows) spans.now.m gamma recording.now s ≡ false)
         × (spans.now.m ≤ leading → all_fit (rule_in spans.now.rows).fit recording.now s spans.now.m ≡ true) }
-    ensures { Tried (sought_by (rule_in spans.now.rows) spans.now.m gamma recording.now) s before
-        (lent list.old sums.old) result (lent list.new sums.new) }
+    ensures tried { Tried (sought_by (rule_in spans.now.rows) spans.now.m gamma recording.now) s before
+        (lent_in lists.old) result (lent_in lists.new) }
+    ensures same { Same lists.old lists.new }
 {
     if leading < spans.m {
         return window::note_none(1, before);
     }
-    window::try_fitting(spans, gamma, recording, list, sums, s, before)
+    window::try_fitting(spans, gamma, recording, lists, s, before)
 }
 
 // The mismatch jump of the point that is compared after `leading` others, or the full jump.

@@ -7,6 +7,7 @@ ghost use Rattle.fit.specs.Answer.{lent, search_of, Answers};
 ghost use Rattle.leaping.specs.Walk.{maximal_walk};
 
 use fit::{Found, Refusal};
+use noting::Lists;
 
 // Lists the places of the profile in the recording and their sums, and counts the places and the windows tried.
 pub fn search(
@@ -27,7 +28,14 @@ pub fn search(
     let next = tables::next_table(&spans);
     let compared = comparing::compared_of(points, d);
     let found = leaping::walk(
-        points, d, gamma, &spans, &next, &compared, recording, list, sums,
+        points,
+        d,
+        gamma,
+        &spans,
+        &next,
+        &compared,
+        recording,
+        &mut Lists { list, sums },
     );
     Ok(found)
 }

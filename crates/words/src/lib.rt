@@ -8,7 +8,7 @@ ghost use Rattle.scan.specs.Following.{Scans};
 ghost use Rattle.words.specs.Most.{max_words};
 
 use fit::Found;
-use noting::{Lists, Lists};
+use noting::Lists;
 use scan::Scan;
 
 // The most words that the counters take: 64 counters of 15 bits, four to a word.

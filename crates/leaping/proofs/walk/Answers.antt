@@ -5,6 +5,8 @@ use Rattle.fit.proofs.Laws.Alongs.{along_start, along_same}
 use Rattle.fit.proofs.Laws.Answers.{noted_miss}
 use Rattle.fit.specs.Answer.{nothing, lent}
 use Rattle.leaping.proofs.Laws.Prepared.{first_in, first_inside, first_near, none_leading, far_false, all_near, table_inside, near_goes, far_goes, along_step, walked, walked_last, walk_begins}
+use Rattle.noting.proofs.Laws.Handing.{same_still, same_on}
+use Rattle.noting.specs.Lists.{lent_in}
 use Rattle.leaping.proofs.walk.Goals as goal
 
 pub full_jump-full-requires : goal.full_jump-full-requires
@@ -39,6 +41,7 @@ loop-e-init c =
       },
       omega arith,
       along_same (walk_begins _ _ _) (along_start _ _ _ _ none),
+      same_still _,
     )
 
 pub overflow_add-s : goal.overflow_add-s
@@ -80,7 +83,7 @@ pub loop-e-preserved-then-is_among : goal.loop-e-preserved-then-is_among
 loop-e-preserved-then-is_among c =
     let inv = c.loop-e.invariant in
     let on = near_goes inv.0 _ _ _ _ _ inv.1 c.loop-e-test.true c.near_points-leading.ensures.0 c.compared_jump-jump.ensures c.jump_at.ensures.0 c.max-longer.ensures in
-    (inv.0, omega (arith, inv.1), along_step inv.0 _ _ _ (omega arith) on.next inv.2 (rw c.requires.same_points at c.try_compared-found.ensures))
+    (inv.0, omega (arith, inv.1), along_step inv.0 _ _ _ (omega arith) on.next inv.2 (rw c.requires.same_points at c.try_compared-found.ensures.tried), same_on inv.3 c.try_compared-found.ensures.same)
 
 pub note_none-found-requires : goal.note_none-found-requires
 note_none-found-requires c = let inv = c.loop-e.invariant in omega (arith, inv.0.ready.ok.short, inv.2.room)
@@ -96,7 +99,7 @@ loop-e-preserved c =
     let inv = c.loop-e.invariant in
     let known = inv.0 in
     let miss = far_false known _ 0 (none_leading known _ (sym (first_near c.loop-e.invariant.0 _ _ _ refl c.is_among.ensures) ∙ c.if-is_among.false)) known.ready.ok.asked.some in
-    (known, omega (arith, inv.1), along_step known _ _ _ (omega arith) (far_goes c.loop-e.invariant.0 _ _ c.loop-e.invariant.1 c.loop-e-test.true (sym (first_near c.loop-e.invariant.0 _ _ _ refl c.is_among.ensures) ∙ c.if-is_among.false) c.jump_at-e.ensures.0).next inv.2 (rw c.note_none-found.ensures (noted_miss _ _ _ _ _ miss)))
+    (known, omega (arith, inv.1), along_step known _ _ _ (omega arith) (far_goes c.loop-e.invariant.0 _ _ c.loop-e.invariant.1 c.loop-e-test.true (sym (first_near c.loop-e.invariant.0 _ _ _ refl c.is_among.ensures) ∙ c.if-is_among.false) c.jump_at-e.ensures.0).next inv.2 (rw c.note_none-found.ensures (noted_miss _ _ _ _ _ miss)), inv.3)
 
 pub try_at-requires : goal.try_at-requires
 try_at-requires c =
@@ -107,12 +110,18 @@ try_at-requires c =
       s_bound = (omega (arith, ok.short), omega (arith, ok.short, inv.2.order, inv.2.room), omega (arith, ok.short, inv.2.room));
     }
 
-pub returns-then-e-recording : goal.returns-then-e-recording
-returns-then-e-recording c =
+pub returns-then-e-recording-clause-answer : goal.returns-then-e-recording-clause-answer
+returns-then-e-recording-clause-answer c =
     let inv = c.loop-e.invariant in
-    walked_last inv.0 _ (omega arith) inv.2 (rw c.requires.same_points at c.try_at.ensures)
+    walked_last inv.0 _ (omega arith) inv.2 (rw c.requires.same_points at c.try_at.ensures.tried)
 
-pub returns : goal.returns
-returns c =
+pub returns-clause-answer : goal.returns-clause-answer
+returns-clause-answer c =
     let at-loop = c.loop-e in
-    walked at-loop.invariant.0 _ {held = lent at-loop.list at-loop.sums} (omega arith) at-loop.invariant.2
+    walked at-loop.invariant.0 _ {held = lent_in at-loop.lists} (omega arith) at-loop.invariant.2
+
+pub returns-then-e-recording-clause-same : goal.returns-then-e-recording-clause-same
+returns-then-e-recording-clause-same c = same_on c.loop-e.invariant.3 c.try_at.ensures.same
+
+pub returns-clause-same : goal.returns-clause-same
+returns-clause-same c = c.loop-e.invariant.3

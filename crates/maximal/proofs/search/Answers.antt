@@ -1,4 +1,5 @@
 -- `maximal::search` meets its contract: refused as its input is, or what the walk answers over the profile's spans. Assumes nothing.
+use Rattle.std.proofs.Common.{rules}
 use mathlib.Core.Path.{ap, ◌∙◌}
 use Prim.Native.Nat.{ℕ}
 use lib.ListN.{length}
@@ -40,5 +41,6 @@ pub returns : goal.returns
 returns c =
     let at = passed _ _ _ _ c.in_ok-checked.ensures in
     let made = c.spans_of-spans.ensures in
-    compiled_answer_lem _ _ _ _ _ (told_spans _ _ _ at.carries at.ok.asked.few c.d-d.ensures made.rows) at.ok _ _
-    (ap (λ (k : ℕ). length (maximal_walk k c.args.points.now c.args.recording.now)) (told_d _ _ _ at.carries c.d-d.ensures)) c.walk-found.ensures
+    let answer = compiled_answer_lem c.args.delta c.args.gamma c.args.points.now c.args.recording.now c.spans_of-spans.result.rows (told_spans _ _ _ at.carries at.ok.asked.few c.d-d.ensures made.rows) at.ok _ _
+    (ap (λ (k : ℕ). length (maximal_walk k c.args.points.now c.args.recording.now)) (told_d _ _ _ at.carries c.d-d.ensures)) c.walk-found.ensures.answer in
+    search rules
