@@ -20,7 +20,8 @@ fn least_of(scores: &[u16]) -> u16
     scores.iter().copied().min().unwrap_or(u16::MAX)
 }
 
-// Notes the windows from s + at on, 16 of them, by their scores.
+// Notes the windows from s + at on, 16 of them, by their scores. It is compiled by itself, and so has all registers for its loop.
+#[inline(never)]
 fn note_sixteen(
     gamma: u32,
     lists: &mut Lists,
