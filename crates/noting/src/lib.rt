@@ -28,13 +28,7 @@ fn lower(count: usize, least: u32, sum: u16) -> u32
 }
 
 // One window more was tried, at s: a place with this sum, which is counted and listed with it, or none.
-pub fn note(
-    list: &mut [u32],
-    sums: &mut [u16],
-    s: usize,
-    sum: Option<u16>,
-    before: Found,
-) -> Found
+pub fn note(list: &mut [u32], sums: &mut [u16], s: usize, sum: Option<u16>, before: Found) -> Found
     requires { (s < 2 ^ 32) × (before.total < 2 ^ 32) × (before.tried < 2 ^ 32) }
     ensures { Noted (is_some sum) (unwrap_or sum 0) s before (lent list.old sums.old) result (lent list.new sums.new) }
 {

@@ -1,6 +1,6 @@
 -- Laws of the question about one window: when it is refused, what each of its answers says, and that there is no second. Assumes nothing.
 use Prim.Native.Nat.{ℕ, zero, suc, ◌+◌, ◌≤◌, ◌<◌}
-use mathlib.Core.Path.{◌≡◌, refl, sym, ap, ap₂, ◌∙◌}
+use mathlib.Core.Path.{◌≡◌, refl, sym, ap, ◌∙◌}
 use mathlib.Core.Bool.{true, false, ◌||◌}
 use mathlib.Core.Logic.Iff
 use mathlib.Core.Logic.{◌⊎◌, inl, inr, ⊎_elim, ◌↔◌}
@@ -14,7 +14,7 @@ use Rattle.fit.specs.Rule.{reading_at}
 use Rattle.fit.specs.Place.{fit_of, sum_diff, Place, d_of, g_of}
 use Rattle.fit.specs.Listing.{places}
 use Rattle.fit.specs.Chain.{FirstInOrder}
-use Rattle.fit.specs.Refusal.{or_else, max_points, search_reasons, search_refusal, Accepted}
+use Rattle.fit.specs.Refusal.{or_else, search_reasons, search_refusal, Accepted}
 use Rattle.fit.specs.Spans.{rule_in, spans_of}
 use Rattle.limits.specs.Made.{points_of, Carries}
 use Rattle.fit.specs.Verdict.{Told, far_at, fits_with, over_with, told_of, BreaksAt, verdict_by, verdict_of}

@@ -1,5 +1,5 @@
 -- `check` meets its contract: refused, or what the window check answers over the profile's spans. Assumes nothing.
-use Rattle.std.proofs.Common.{◌≡◌, sym}
+use Rattle.std.proofs.Common.{sym}
 use Rattle.limits.proofs.Laws.Openings.{may_compile}
 use Rattle.judging.proofs.Laws.Judgings.{check_late, check_first, check_posed, check_ready, check_told, check_handed, check_granted}
 use Rattle.judging.proofs.check.Goals as goal
