@@ -39,7 +39,7 @@ impl Scan<'_> {
     }
 
     // Reads the readings that end no window, so that none of them is asked for one, and answers how many they are. Before them all counters are
-    // above g. Each number of words takes this and `read_windows` over, and so has them with as many words as it knows of.
+    // above g. This and `read_windows` are compiled into their callers, which know how many words there are.
     #[inline(always)]
     pub fn read_lead(&self, words: &mut [u64]) -> usize
         requires { words.old ≡ replicate self.now.used self.now.masks.top }
