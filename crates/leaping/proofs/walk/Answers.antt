@@ -3,7 +3,7 @@ use mathlib.Core.Path.{◌≡◌, refl, sym, ◌∙◌}
 use native.Mathlib.Omega.{arith}
 use Rattle.fit.proofs.Laws.Alongs.{along_start, along_same}
 use Rattle.fit.proofs.Laws.Answers.{noted_miss}
-use Rattle.fit.specs.Answer.{nothing, lent}
+use Rattle.fit.specs.Answer.{nothing}
 use Rattle.leaping.proofs.Laws.Prepared.{first_in, first_inside, first_near, none_leading, far_false, all_near, table_inside, near_goes, far_goes, along_step, walked, walked_last, walk_begins}
 use Rattle.noting.proofs.Laws.Handing.{same_still, same_on}
 use Rattle.noting.specs.Lists.{lent_in}
