@@ -6,4 +6,3 @@ use Rattle.window.proofs.check.check_at.Given as goal
 
 abbrev pub invariant-loop-i : goal.invariant-loop-i
 invariant-loop-i l = (l.i ≤ l.spans.m) × Matched (rule_in l.spans.rows) l.recording l.s l.i l.sum 65535
-
