@@ -2,7 +2,7 @@
 
 // The number of the refusal and zeros; or 0, and the recording position of each point, with zeros beyond the last point.
 #[repr(C)]
-#[derive(Clone, Copy)]
+#[derive(Clone, Copy, Debug, PartialEq, Eq)]
 pub struct Chain {
     pub refusal: u32,
     pub positions: [u32; 64],

@@ -1,14 +1,21 @@
 // What is noted of windows: each is counted, and a place is listed with its sum.
-// The two lent lists are handed on one by one, here and above: in a struct each contract would have to say too that both references stay the same.
 #![tactic(auto)]
 
 ghost use Rattle.std.specs.Prelude.{◌≡◌, ◌+◌, ◌<◌, ◌^◌, set};
 ghost use Rattle.std.specs.Option.{is_some, unwrap_or};
 ghost use Rattle.fit.specs.Sums.{lowered};
-ghost use Rattle.fit.specs.Answer.{lent, Noted};
+ghost use Rattle.fit.specs.Answer.{Noted};
+ghost use Rattle.noting.specs.Lists.{lent_in, Same};
 ghost use Rattle.fit.specs.Trying.{missed, counted};
 
 use fit::Found;
+
+// The two lists that a search is lent: for the places, and for their sums.
+#[derive(Drop)]
+pub struct Lists<'a> {
+    pub list: &'a mut [u32],
+    pub sums: &'a mut [u16],
+}
 
 // Writes an entry at `at`, if the list goes that far.
 fn put<T: Copy>(list: &mut [T], at: usize, entry: T)
@@ -28,20 +35,15 @@ fn lower(count: usize, least: u32, sum: u16) -> u32
 }
 
 // One window more was tried, at s: a place with this sum, which is counted and listed with it, or none.
-pub fn note(
-    list: &mut [u32],
-    sums: &mut [u16],
-    s: usize,
-    sum: Option<u16>,
-    before: Found,
-) -> Found
+pub fn note(lists: &mut Lists, s: usize, sum: Option<u16>, before: Found) -> Found
     requires { (s < 2 ^ 32) × (before.total < 2 ^ 32) × (before.tried < 2 ^ 32) }
-    ensures { Noted (is_some sum) (unwrap_or sum 0) s before (lent list.old sums.old) result (lent list.new sums.new) }
+    ensures noted { Noted (is_some sum) (unwrap_or sum 0) s before (lent_in lists.old) result (lent_in lists.new) }
+    ensures same { Same lists.old lists.new }
 {
     match sum {
         Some(sum) => {
-            put(list, before.total, s as u32);
-            put(sums, before.total, sum);
+            put(lists.list, before.total, s as u32);
+            put(lists.sums, before.total, sum);
             Found {
                 total: before.total + 1,
                 tried: before.tried + 1,

@@ -8,7 +8,8 @@ ghost use Rattle.fit.specs.Reading.{highest};
 ghost use Rattle.fit.specs.Rule.{all_fit};
 ghost use Rattle.fit.specs.Refusal.{max_gamma, max_readings};
 ghost use Rattle.fit.specs.Spans.{rule_in};
-ghost use Rattle.fit.specs.Answer.{sought_by, lent};
+ghost use Rattle.fit.specs.Answer.{sought_by};
+ghost use Rattle.noting.specs.Lists.{lent_in, Same};
 ghost use Rattle.fit.specs.Trying.{TriedAll};
 ghost use Rattle.marks.specs.Marks.{bit, Marks};
 ghost use Rattle.probe.specs.Around.{around_suits};
@@ -16,6 +17,7 @@ ghost use Rattle.stops.specs.Passing.{Tables, windows_at, near_windows, Passed, 
 
 use fit::Found;
 use marks::NearPoints;
+use noting::Lists;
 use spans::Spans;
 
 // Where the search stops: the probe's position, how many windows put a near point at a probe that was passed, and its own windows that are worth a
@@ -66,22 +68,22 @@ pub fn settle(
     gamma: u32,
     near: &NearPoints,
     recording: &[u8],
-    list: &mut [u32],
-    sums: &mut [u16],
+    lists: &mut Lists,
     q: usize,
     mask: u64,
     before: Found,
 ) -> Found
     requires le_m { (1 ≤ spans.now.m) × (near.now.m ≡ spans.now.m) × (gamma ≤ max_gamma) × (length recording.now ≤ max_readings) × (spans.now.m ≤ q + 1) × (q + spans.now.m ≤ length recording.now) }
     requires total_le_tried { (before.total ≤ before.tried) × (before.tried + spans.now.m ≤ q + 1) × (mask < 2 ^ spans.now.m) }
-    ensures { Tables spans.now.m (rule_in spans.now.rows).fit near.now.masks near.now.counts
+    ensures tried { Tables spans.now.m (rule_in spans.now.rows).fit near.now.masks near.now.counts
         → Marks spans.now.m (around_suits (rule_in spans.now.rows).fit spans.now.m recording.now q 1) mask
         → TriedAll (sought_by (rule_in spans.now.rows) spans.now.m gamma recording.now)
         (near_windows (rule_in spans.now.rows).fit spans.now.m recording.now q) before
-        (lent list.old sums.old) result (lent list.new sums.new) }
+        (lent_in lists.old) result (lent_in lists.new) }
+    ensures same { Same lists.old lists.new }
 {
     let kept = probe::fitting(near, recording, q, mask);
-    let found = try_marked(spans, gamma, recording, list, sums, q, kept, before);
+    let found = try_marked(spans, gamma, recording, lists, q, kept, before);
     noting::count_all(before.tried + near.count_at(recording[q]), found)
 }
 
@@ -90,17 +92,17 @@ fn try_marked(
     spans: &Spans,
     gamma: u32,
     recording: &[u8],
-    list: &mut [u32],
-    sums: &mut [u16],
+    lists: &mut Lists,
     q: usize,
     mask: u64,
     before: Found,
 ) -> Found
     requires inside { (gamma ≤ max_gamma) × (length recording.now ≤ max_readings) × (spans.now.m ≤ q + 1) × (q + spans.now.m ≤ length recording.now) }
     requires total_le_tried { (before.total ≤ before.tried) × (before.tried + spans.now.m ≤ q + 1) × (mask < 2 ^ spans.now.m) }
-    ensures { Marks spans.now.m (λ (i : ℕ). all_fit (rule_in spans.now.rows).fit recording.now (q - i) spans.now.m) mask
+    ensures tried { Marks spans.now.m (λ (i : ℕ). all_fit (rule_in spans.now.rows).fit recording.now (q - i) spans.now.m) mask
         → TriedAll (sought_by (rule_in spans.now.rows) spans.now.m gamma recording.now) (windows_at (bit mask) q spans.now.m) before
-        (lent list.old sums.old) result (lent list.new sums.new) }
+        (lent_in lists.old) result (lent_in lists.new) }
+    ensures same { Same lists.old lists.new }
 {
     let mut found = before;
     let mut left = mask;
@@ -108,7 +110,7 @@ fn try_marked(
         let taken = marks::take_highest(left);
         left = taken.left;
         let at = q - taken.point;
-        found = window::try_fitting(spans, gamma, recording, list, sums, at, found);
+        found = window::try_fitting(spans, gamma, recording, lists, at, found);
     }
     found
 }

@@ -7,5 +7,5 @@ mod check;
 mod trying;
 
 pub use check::{check_at, count_windows, is_place};
-pub use noting::{note, note_none};
+pub use noting::{Lists, note, note_none};
 pub use trying::{note_score, try_at, try_fitting};

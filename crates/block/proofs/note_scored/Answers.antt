@@ -2,19 +2,21 @@
 use native.Mathlib.Omega.{arith}
 use mathlib.Core.Path.{refl}
 use Rattle.fit.proofs.Laws.Runs.{running_start, running_all, running_end}
+use Rattle.noting.proofs.Laws.Handing.{same_still, same_on}
 use Rattle.block.proofs.note_scored.Goals as goal
 
 pub loop-k-init : goal.loop-k-init
-loop-k-init c = let known = c.requires in running_start _ _ _ _ _ (omega arith) refl known.1 known.2
+loop-k-init c = let known = c.requires in (running_start _ _ _ _ _ (omega arith) refl known.1 known.2, same_still _)
 
 pub note_sixteen-found-requires : goal.note_sixteen-found-requires
-note_sixteen-found-requires c = let inv = c.loop-k.invariant in record {
+note_sixteen-found-requires c = let inv = c.loop-k.invariant.0 in record {
   at_bound = (omega arith, omega arith);
   total_le_tried = (inv.order, inv.room);
 }
 
 pub loop-k-preserved : goal.loop-k-preserved
-loop-k-preserved c = running_all _ _ _ c.loop-k.invariant _ _ (omega arith) (omega arith) c.note_sixteen-found.ensures
+loop-k-preserved c =
+    (running_all _ _ _ c.loop-k.invariant.0 _ _ (omega arith) (omega arith) c.note_sixteen-found.ensures.tried, same_on c.loop-k.invariant.1 c.note_sixteen-found.ensures.same)
 
-pub returns : goal.returns
-returns c = running_end _ _ _ c.loop-k.invariant (omega arith)
+pub returns-clause-tried : goal.returns-clause-tried
+returns-clause-tried c = running_end _ _ _ c.loop-k.invariant.0 (omega arith)

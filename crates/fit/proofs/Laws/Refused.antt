@@ -1,9 +1,9 @@
 -- Laws of refusals and their numbers: none is 0, no two are the same, and so a result is told by its numbers. Assumes nothing.
-use Rattle.std.proofs.Common.{ℕ, zero, suc, ◌≡◌, ◌≤◌, refl, sym, ap, ◌∙◌, cond, ◌==◌, arith, Result, Ok, Err}
+use Rattle.std.proofs.Common.{ℕ, ◌≡◌, ◌≤◌, refl, sym, ap, ◌∙◌, cond, ◌==◌, arith, Result, Ok, Err}
 use Rattle.std.specs.Result.{IsErrAnd}
 use Rattle.std.proofs.lemmas.Result.{err_from_is_err_and}
-use Rattle.fit.specs.Refused.{number_of, refusal_of, Gives}
-use Rattle.fit.specs.Answer.{Sought, Lent, told, begun, search_of, Answer}
+use Rattle.fit.specs.Refused.{number_of, Gives}
+use Rattle.fit.specs.Answer.{Sought, Lent, search_of, Answer}
 use Rattle.fit.specs.declared.answer.Found.{Found}
 use Rattle.fit.specs.declared.answer.Search.{Search}
 use Rattle.fit.specs.declared.refusal.Refusal.{Refusal}
@@ -40,12 +40,19 @@ number_back ZeroPoint = refl
 pub number_only : (e e' : Refusal) → number_of e ≡ number_of e' → e ≡ e'
 number_only e e' same = sym (number_back e) ∙ ap refusal_at same ∙ number_back e'
 
--- ---- what a call gives: no second result
-pub no_second_given : {A : Type 0} (num : ℕ) (v : A) (r r' : Result A Refusal) → Gives num (λ w. w ≡ v) r → Gives num (λ w. w ≡ v) r' → r ≡ r'
-no_second_given num v (Ok w) (Ok w') a b = ap (λ u. Ok u) (a.1 ∙ sym b.1)
-no_second_given num v (Ok w) (Err e') a b = absurd (omega (arith, number_some e', a.0, b))
-no_second_given num v (Err e) (Ok w') a b = absurd (omega (arith, number_some e, a, b.0))
-no_second_given num v (Err e) (Err e') a b = ap (λ u. Err u) (number_only e e' (a ∙ sym b))
+-- ---- what a call gives: no second result. Two values of which P holds are the same in what Q says.
+abbrev pub SameResult : {A : Type 0} → (A → A → Type 0) → Result A Refusal → Result A Refusal → Type 0
+SameResult Q (Ok v) (Ok w) = Q v w
+SameResult Q (Ok v) (Err e) = ⊥
+SameResult Q (Err d) (Ok w) = ⊥
+SameResult Q (Err d) (Err e) = d ≡ e
+
+pub no_second_given : {A : Type 0} (num : ℕ) (P : A → Type 0) (Q : A → A → Type 0) → ((v w : A) → P v → P w → Q v w) → (r r' : Result A Refusal)
+    → Gives num P r → Gives num P r' → SameResult Q r r'
+no_second_given num P Q same (Ok v) (Ok w) a b = same v w a.1 b.1
+no_second_given num P Q same (Ok v) (Err e) a b = omega (arith, number_some e, a.0, b)
+no_second_given num P Q same (Err d) (Ok w) a b = omega (arith, number_some d, a, b.0)
+no_second_given num P Q same (Err d) (Err e) a b = number_only d e (a ∙ sym b)
 
 -- ---- a search that is refused, by the number of its refusal
 pub answer_refusal : (num : ℕ) (t : Sought) (tried : ℕ) (entry : Lent) (e : Refusal) → number_of e ≡ num → Answer num t tried entry (search_of (Err e)) entry

@@ -1,5 +1,5 @@
 -- Laws of what the checked types hold, and of what a call knows of its checked input. Assumes nothing.
-use Rattle.std.proofs.Common.{ℕ, zero, suc, ◌+◌, ◌≡◌, ◌≤◌, List, [], ◌∷◌, ◌||◌, ◌==◌, ◌++◌, length, drop, take, replicate, refl, sym, ap, ◌∙◌, arith}
+use Rattle.std.proofs.Common.{ℕ, ◌≡◌, ◌≤◌, List, [], ◌∷◌, ◌||◌, ◌==◌, ◌++◌, length, drop, replicate, refl, sym, ap, ◌∙◌, arith}
 use Rattle.fit.specs.Place.{d_of, g_of}
 use Rattle.fit.specs.Listing.{overlay}
 use Rattle.fit.specs.Refusal.{max_points, or_else, holds_zero}
@@ -11,6 +11,7 @@ use Rattle.fit.proofs.Laws.Chains.{else_later, else_given}
 use Rattle.fit.proofs.Laws.Refused.{number_some}
 use Rattle.limits.specs.declared.checked.Checked.{Checked}
 use Rattle.limits.specs.declared.profile.Profile.{Profile}
+use Rattle.limits.specs.declared.tolerance.Tolerance.{Tolerance}
 use Rattle.limits.specs.Made.{OfTolerances, OfPoints, points_of, Carries}
 use Rattle.fit.proofs.Laws.Listings.{take_overlay, overlay_is}
 use Rattle.std.proofs.lemmas.List.{take_all}
@@ -48,3 +49,19 @@ module _ (delta gamma : ℕ) (x : List ℕ) {q : Checked} (c : Carries delta gam
   pub told_spans : {d : ℕ} {spans : List ℕ} → length x ≤ max_points → d ≡ d_of q.tolerance.delta q.tolerance.gamma
       → spans ≡ spans_of d (points_of q.profile) → spans ≡ spans_of (d_of delta gamma) x
   told_spans few small e = rw (holds_points x q.profile c.profile few, told_d small) at e
+
+-- ---- no second tolerance, profile or checked input: what they hold is the same
+pub no_second_tolerance : (delta gamma : ℕ) (t u : Tolerance) → OfTolerances delta gamma t → OfTolerances delta gamma u → t ≡ u
+no_second_tolerance delta gamma t u a b =
+    let d = a.delta_is ∙ sym b.delta_is in
+    let g = a.gamma_is ∙ sym b.gamma_is in
+    λ i. record { delta = d i; gamma = g i }
+
+pub no_second_profile : (x : List ℕ) (p q : Profile) → OfPoints x p → OfPoints x q → (p.points ≡ q.points) × (p.m ≡ q.m)
+no_second_profile x p q a b = (a.points_are ∙ sym b.points_are, a.m_is ∙ sym b.m_is)
+
+pub no_second_checked : (delta gamma : ℕ) (x : List ℕ) (p q : Checked) → Carries delta gamma x p → Carries delta gamma x q
+    → (p.tolerance ≡ q.tolerance) × (p.profile.points ≡ q.profile.points) × (p.profile.m ≡ q.profile.m)
+no_second_checked delta gamma x p q a b =
+    let same = no_second_profile x p.profile q.profile a.profile b.profile in
+    (no_second_tolerance delta gamma p.tolerance q.tolerance a.tolerance b.tolerance, same.0, same.1)

@@ -1,5 +1,5 @@
 -- What a question and a search know once their input is checked and not refused. Assumes nothing.
-use Rattle.std.proofs.Common.{ℕ, ◌≡◌, ◌≤◌, List, sym, arith}
+use Rattle.std.proofs.Common.{ℕ, ◌≡◌, ◌≤◌, List, arith}
 use Rattle.fit.specs.Place.{d_of}
 use Rattle.fit.specs.Refusal.{max_delta, question_refusal, search_refusal, Asked, Accepted}
 use Rattle.limits.specs.Made.{Carries}

@@ -1,4 +1,5 @@
 -- `plain::search` meets its contract: refused as it begins, or as the search over spans answers. Assumes nothing.
+use Rattle.std.proofs.Common.{rules}
 use mathlib.Core.Path.{◌≡◌, refl, ◌∙◌}
 use lib.ListN.{length}
 use Rattle.fit.proofs.Laws.Compiled.{ready, compiled_answer_lem}
@@ -24,4 +25,5 @@ pub returns : goal.returns
 returns c =
     let known = passed _ _ _ _ c.in_ok-checked.ensures in
     let long : c.spans_of-spans.result.m ≡ length c.args.points.now = c.spans_of-spans.ensures.points ∙ known.carries.profile.m_is in
-    compiled_answer_lem _ _ _ _ _ (told_spans _ _ _ known.carries known.ok.asked.few c.d.ensures c.spans_of-spans.ensures.rows) known.ok _ _ refl (rw long at c.over_spans.ensures)
+    let answer = compiled_answer_lem c.args.delta c.args.gamma c.args.points.now c.args.recording.now c.spans_of-spans.result.rows (told_spans _ _ _ known.carries known.ok.asked.few c.d.ensures c.spans_of-spans.ensures.rows) known.ok _ _ refl (rw long at c.over_spans.ensures.answer) in
+    search rules

@@ -1,4 +1,5 @@
 -- `skip::search` meets its contract: refused as it begins, or as the search over spans answers. Assumes nothing.
+use Rattle.std.proofs.Common.{rules}
 use mathlib.Core.Path.{◌≡◌, ap, ◌∙◌}
 use lib.ListN.{length}
 use Rattle.fit.proofs.Laws.Compiled.{ready, compiled_near, compiled_answer_lem}
@@ -27,4 +28,5 @@ returns c =
     let given = c.args in
     let long : c.spans_of-spans.result.m ≡ length given.points.now = c.spans_of-spans.ensures.points ∙ known.carries.profile.m_is in
     let spans = told_spans _ _ _ known.carries known.ok.asked.few c.d.ensures c.spans_of-spans.ensures.rows in
-    compiled_answer_lem _ _ _ _ _ spans known.ok _ _ (ap length (same_walk _ _ _ (compiled_near given.delta given.gamma given.points.now _ spans known.ok.asked.few) _)) (rw long at c.over_spans.ensures)
+    let answer = compiled_answer_lem given.delta given.gamma given.points.now given.recording.now c.spans_of-spans.result.rows spans known.ok _ _ (ap length (same_walk _ _ _ (compiled_near given.delta given.gamma given.points.now _ spans known.ok.asked.few) _)) (rw long at c.over_spans.ensures.answer) in
+    search rules

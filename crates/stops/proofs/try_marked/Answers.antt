@@ -5,12 +5,13 @@ use lib.Pow.{pow_pos}
 use Rattle.fit.proofs.Laws.Tryings.{trying_start, trying_next, trying_end}
 use Rattle.marks.proofs.Laws.Marking.{highest_top, top_all}
 use Rattle.stops.proofs.Laws.Probing.{marked_next, marked_none}
+use Rattle.noting.proofs.Laws.Handing.{same_still, same_on}
 use Rattle.stops.proofs.try_marked.Goals as goal
 
 pub loop-left-init : goal.loop-left-init
 loop-left-init c =
     let known = c.requires in
-    (c.args.spans.now.m, (omega arith, top_all _ _ known.total_le_tried.2, known.total_le_tried.0, omega arith, λ marks. trying_start _ _ _ _ _ known.total_le_tried.0 (omega arith)))
+    (c.args.spans.now.m, (omega arith, top_all _ _ known.total_le_tried.2, known.total_le_tried.0, omega arith, λ marks. trying_start _ _ _ _ _ known.total_le_tried.0 (omega arith), same_still _))
 
 pub overflow_sub-at : goal.overflow_sub-at
 overflow_sub-at c =
@@ -45,11 +46,15 @@ loop-left-preserved c =
             trying_next _ _ _ _ (inv.1.4 marks) (marked_next _ _ inv.0 top)
             (c.try_fitting-found.ensures.tried (sym (marks.each point (omega (arith, top.below, inv.1.0))) ∙ top.marked))
             (omega (arith, top.below, inv.1.0)),
+        same_on inv.1.5 c.try_fitting-found.ensures.same,
       ),
     )
 
-pub returns : goal.returns
-returns c =
+pub returns-clause-tried : goal.returns-clause-tried
+returns-clause-tried c =
     let inv = c.loop-left.invariant in
     let none_left : c.loop-left.left ≡ 0 = omega arith in
     λ marks. trying_end _ _ (inv.1.4 marks) (marked_none _ _ inv.0 (sym inv.1.1 ∙ none_left))
+
+pub returns-clause-same : goal.returns-clause-same
+returns-clause-same c = c.loop-left.invariant.1.5

@@ -3,13 +3,13 @@ use native.Mathlib.Omega.{arith}
 use borrow.Author.Tests.{lt-ltb, le-ltb}
 use Rattle.leaping.proofs.step.compared_jump.Goals as goal
 
-pub bounds-jumps-p : goal.bounds-jumps-p
-bounds-jumps-p c =
-    omega (arith, c.index-p.ensures.0, c.requires.1 c.if-leading-m.true)
+pub bounds-compared-p : goal.bounds-compared-p
+bounds-compared-p c =
+    omega (arith, c.from-p.ensures, c.requires.1 c.if-leading-m.true)
 
 pub returns-then-leading-m : goal.returns-then-leading-m
 returns-then-leading-m c =
-    rw (lt-ltb _ _ c.if-leading-m.true, ← c.index-p.ensures.0) c.index.ensures.0
+    rw (lt-ltb _ _ c.if-leading-m.true, ← c.from-p.ensures) c.from.ensures
 
 pub returns : goal.returns
 returns c = rw (le-ltb _ _ c.if-leading-m.false)

@@ -2,8 +2,6 @@
 use mathlib.Core.Bool.{true}
 use mathlib.Core.Path.{◌≡◌}
 use Prim.Native.Nat.{◌*◌, ◌≤◌}
-use lib.ListN.{length}
-use Rattle.fit.specs.Refusal.{max_points}
 use Rattle.fit.specs.Rule.{all_fit}
 use Rattle.fit.specs.Spans.{rule_in}
 use Rattle.spans.proofs.Spans.all_suit.Given as goal

@@ -1,6 +1,6 @@
 -- `spans::eight_suit` meets its contract: so far the first i + j readings suit, or not all of them. Assumes nothing.
 use mathlib.Core.Path.{◌≡◌}
-use Prim.Native.Nat.{◌+◌, ◌-◌, ◌≤◌}
+use Prim.Native.Nat.{◌+◌, ◌≤◌}
 use lib.ListN.{length}
 use Rattle.fit.specs.Refusal.{max_points}
 use Rattle.fit.specs.Rule.{all_fit}

@@ -1,7 +1,7 @@
 -- `spans::rest_suit` meets its contract: the first i readings suit. Assumes nothing.
 use mathlib.Core.Bool.{true}
 use mathlib.Core.Path.{◌≡◌}
-use Prim.Native.Nat.{◌+◌, ◌-◌, ◌≤◌}
+use Prim.Native.Nat.{◌+◌, ◌≤◌}
 use lib.ListN.{length}
 use Rattle.fit.specs.Refusal.{max_points}
 use Rattle.fit.specs.Rule.{all_fit}

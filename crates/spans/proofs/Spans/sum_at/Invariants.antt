@@ -1,6 +1,6 @@
 -- `spans::sum_at` meets its contract: the total is that of the first i readings. Assumes nothing.
 use mathlib.Core.Path.{◌≡◌}
-use Prim.Native.Nat.{◌+◌, ◌-◌, ◌*◌, ◌≤◌}
+use Prim.Native.Nat.{◌+◌, ◌*◌, ◌≤◌}
 use lib.ListN.{length}
 use Rattle.fit.specs.Refusal.{max_points}
 use Rattle.fit.specs.Rule.{sum_cost}

@@ -1,20 +1,22 @@
--- `all_agree` meets its contract: the first i points are alike to those k further on. Assumes nothing.
-use mathlib.Core.Path.{sym, ◌∙◌}
+-- `all_agree` meets its contract: the pairs that it asks are those of the condition. Assumes nothing.
+use Prim.Native.Nat.{◌*◌, ◌-◌}
+use mathlib.Core.Path.{◌≡◌, ◌∙◌}
+use mathlib.Core.Bool.{true, false}
 use native.Mathlib.Omega.{arith}
-use Rattle.jumps.proofs.Laws.Conditions.{alike_start, alike_more, alike_miss, alike_end}
+use lib.ListN.{length, drop, length-drop}
+use borrow.Author.Rules.{rules}
+use Rattle.std.proofs.lemmas.Iterator.{cases_from_all, YieldsList-from_slice, YieldsList-from_zip}
+use Rattle.std.proofs.lemmas.List.{take_all}
+use Rattle.fit.specs.Reading.{alike}
+use Rattle.tables.proofs.Laws.Pairs.{all_pairs}
 use Rattle.tables.proofs.several.all_agree.Goals as goal
 
-pub loop-i-init : goal.loop-i-init
-loop-i-init c = alike_start _ _ _
-
-pub are_alike-requires : goal.are_alike-requires
-are_alike-requires c = tt
-
-pub loop-i-preserved : goal.loop-i-preserved
-loop-i-preserved c = alike_more _ _ c.loop-i.invariant (sym c.are_alike.ensures ∙ c.if-are_alike.true) (omega arith)
-
-pub returns-else-are_alike : goal.returns-else-are_alike
-returns-else-are_alike c = sym (alike_miss _ _ _ _ (omega arith) (sym c.are_alike.ensures ∙ c.if-are_alike.false))
-
 pub returns : goal.returns
-returns c = sym (alike_end _ _ c.loop-i.invariant (omega arith))
+returns c =
+    let x = c.args.points.now in
+    let k = c.args.k in
+    let shifted = c.zip.ensures.second.0 ∙ take_all (length x - k) (drop k x) (omega (arith, length-drop k x)) in
+    all_pairs c.args.d x k c.all.result
+    (cases_from_all c.all.new.self _ _ (λ p. alike (2 * c.args.d) p.0 p.1 ≡ true) (λ p. alike (2 * c.args.d) p.0 p.1 ≡ false) c.all.ensures.ran
+    (YieldsList-from_zip (YieldsList-from_slice x cc) (YieldsList-from_slice (drop k x) shifted))
+    (λ p q r. search rules) (λ p q r. search rules))

@@ -1,5 +1,5 @@
 -- `window::check::check_at` meets its contract: the first i readings suit their points, and the sum is theirs (`Matched`). Assumes nothing.
-use Prim.Native.Nat.{◌≤◌, ◌-◌}
+use Prim.Native.Nat.{◌≤◌}
 use Rattle.fit.specs.Spans.{rule_in}
 use Rattle.fit.proofs.Laws.Rules.{Matched}
 use Rattle.window.proofs.check.check_at.Given as goal

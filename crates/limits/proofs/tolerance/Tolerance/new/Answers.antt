@@ -1,5 +1,5 @@
 -- `limits::Tolerance::new` meets its contract: each return says whether its reason applied. Assumes nothing.
-use Rattle.std.proofs.Common.{refl, sym, arith, inl, inr, ⊎_elim}
+use Rattle.std.proofs.Common.{refl, sym, inl, inr, ⊎_elim}
 use Rattle.fit.specs.Refused.{number_of}
 use Rattle.fit.proofs.Laws.Refusals.{tolerance_bad, tolerance_good}
 use Rattle.limits.proofs.tolerance.Tolerance.new.Goals as goal
