@@ -10,8 +10,8 @@ ghost use Rattle.fit.specs.Trying.{TriedAll, run};
 ghost use Rattle.block.specs.Block.{told_by};
 
 use fit::Found;
-use spans::Spans;
 use noting::Lists;
+use spans::Spans;
 
 // The least of some scores; where there are none, the greatest that there can be.
 fn least_of(scores: &[u16]) -> u16
