@@ -88,13 +88,7 @@ impl Pass {
 }
 
 // Holds the 64 windows from s on to the three points of pass i. Answers whether any is left.
-fn sift(
-    marks: &mut [u8; 64],
-    spans: &Spans,
-    recording: &[u8],
-    s: usize,
-    i: usize,
-) -> bool
+fn sift(marks: &mut [u8; 64], spans: &Spans, recording: &[u8], s: usize, i: usize) -> bool
     requires i_bound { (3 * i < spans.now.m) × (s + 63 + spans.now.m ≤ length recording.now) × (length recording.now ≤ max_readings) }
     requires entries { Entries (λ j. mark (passes (rule_in spans.now.rows).fit spans.now.m recording.now (s + j) i)) 64 marks.old }
     ensures { Entries (λ j. mark (passes (rule_in spans.now.rows).fit spans.now.m recording.now (s + j) (i + 1))) 64 marks.new

@@ -30,8 +30,7 @@ pub struct Stop {
 }
 
 // Passes the probes from y[from] on that have no window worth a look. On most recordings this loop has most of the work, and nothing in it but three
-// look-ups and a count: it is compiled by itself, and so has all registers.
-#[inline(never)]
+// look-ups and a count.
 pub fn next_stop(near: &NearPoints, recording: &[u8], from: usize) -> Stop
     requires { (1 ≤ near.now.m) × (near.now.m ≤ from + 1) × (from ≤ length recording.now) × (length recording.now ≤ max_readings) }
     ensures by_index { (fit : ℕ → ℕ → Bool) → Tables near.now.m fit near.now.masks near.now.counts

@@ -21,7 +21,8 @@ pub fn note_score(gamma: u32, lists: &mut Lists, s: usize, score: u16, before: F
     noting::note(lists, s, sum, before)
 }
 
-// Tries the window at s.
+// Tries the window at s. It is compiled into the loops that call it, which then keep what is found in registers.
+#[inline(always)]
 pub fn try_at(
     spans: &Spans,
     gamma: u32,
