@@ -40,7 +40,7 @@ pub fn walk<'a>(
     let more = reading::most_near(points[first], d) - least;
     let leaps = step::leap_table(next, compared.jumps[first]);
     let mut found = Found::default();
-    // where the reading after the window stands
+    // where the reading after the window stands; a `while`, since each step is a jump of its own length
     let mut e = m;
     while e < recording.len() {
         let s = e - m;
