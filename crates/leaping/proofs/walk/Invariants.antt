@@ -11,8 +11,8 @@ use Rattle.leaping.proofs.walk.Given as goal
 
 abbrev pub invariant-loop-e : goal.invariant-loop-e
 invariant-loop-e l =
-    Prepared l.gamma l.points l.recording l.d l.spans.rows l.next l.compared.order l.compared.jumps l.full l.first l.least l.more l.leaps × (length l.points ≤ l.e)
-    × Along (sought_by (rule_in l.spans.rows) (length l.points) l.gamma l.recording) (maximal_walk l.d l.points l.recording) (left l.d l.points l.recording (l.e - length l.points)) (l.e - length l.points)
+    Prepared l.gamma l.points.points.now l.recording l.points.d l.spans.rows l.next l.compared.order l.compared.jumps l.full l.first l.least l.more l.leaps × (length l.points.points.now ≤ l.e)
+    × Along (sought_by (rule_in l.spans.rows) (length l.points.points.now) l.gamma l.recording) (maximal_walk l.points.d l.points.points.now l.recording) (left l.points.d l.points.points.now l.recording (l.e - length l.points.points.now)) (l.e - length l.points.points.now)
     (lent l.initial.list l.initial.sums) (lent l.list l.sums) l.found
 
 abbrev pub decreases-loop-e : goal.decreases-loop-e
