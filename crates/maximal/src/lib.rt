@@ -30,6 +30,8 @@ pub fn search(
     let points = Points { points, d };
     let compared = comparing::compared_of(&points);
     let mut lists = Lists { list, sums };
-    let found = leaping::walk(&points, gamma, &spans, &next, &compared, recording, &mut lists);
+    let found = leaping::walk(
+        &points, gamma, &spans, &next, &compared, recording, &mut lists,
+    );
     Ok(found)
 }
