@@ -1,8 +1,8 @@
 -- Laws of refusals and their numbers: none is 0, no two are the same, and so a result is told by its numbers. Assumes nothing.
 use Rattle.std.proofs.Common.{ℕ, ◌≡◌, ◌≤◌, refl, sym, ap, ◌∙◌, cond, ◌==◌, arith, Result, Ok, Err}
-use Rattle.std.specs.Result.{IsErrAnd}
+use Rattle.std.specs.Result.{IsOkAnd, IsErrAnd}
 use Rattle.std.proofs.lemmas.Result.{err_from_is_err_and}
-use Rattle.fit.specs.Refused.{number_of, Gives}
+use Rattle.fit.specs.Refused.{number_of, refusal_of, Gives}
 use Rattle.fit.specs.Answer.{Sought, Lent, search_of, Answer}
 use Rattle.fit.specs.declared.answer.Found.{Found}
 use Rattle.fit.specs.declared.answer.Search.{Search}
@@ -53,6 +53,19 @@ no_second_given num P Q same (Ok v) (Ok w) a b = same v w a.1 b.1
 no_second_given num P Q same (Ok v) (Err e) a b = omega (arith, number_some e, a.0, b)
 no_second_given num P Q same (Err d) (Ok w) a b = omega (arith, number_some d, a, b.0)
 no_second_given num P Q same (Err d) (Err e) a b = number_only d e (a ∙ sym b)
+
+-- ---- which of the two is given, by the number: it is the result's own
+pub refusal_given : {A : Type 0} (num : ℕ) (P : A → Type 0) (r : Result A Refusal) → Gives num P r → refusal_of r ≡ num
+refusal_given num P (Ok v) g = sym g.0
+refusal_given num P (Err e) g = g
+
+pub err_given : {A : Type 0} (num : ℕ) (P : A → Type 0) (r : Result A Refusal) → 1 ≤ num → Gives num P r → IsErrAnd r (λ e. number_of e ≡ num)
+err_given num P (Ok v) some g = absurd (omega (arith, some, g.0))
+err_given num P (Err e) some g = g
+
+pub ok_given : {A : Type 0} (num : ℕ) (P : A → Type 0) (r : Result A Refusal) → num ≡ 0 → Gives num P r → IsOkAnd r P
+ok_given num P (Ok v) none g = g.1
+ok_given num P (Err e) none g = absurd (omega (arith, number_some e, none, g))
 
 -- ---- a search that is refused, by the number of its refusal
 pub answer_refusal : (num : ℕ) (t : Sought) (tried : ℕ) (entry : Lent) (e : Refusal) → number_of e ≡ num → Answer num t tried entry (search_of (Err e)) entry

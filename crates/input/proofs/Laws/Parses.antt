@@ -17,7 +17,7 @@ use Rattle.fit.specs.declared.refusal.Refusal.TheVariants as refusals
 use Rattle.fit.specs.declared.refusal.Refusal.{Refusal}
 use Rattle.fit.specs.Refused.{number_of}
 use Rattle.input.specs.Told.{front_told, points_told, recording_told, Parsed}
-use Rattle.input.specs.Inputs.{Front, delta_in, gamma_in, m_in, max_input, of_input, BadInput, GoodInput, front_by, front_of, points_by, recording_by, recording_in}
+use Rattle.input.specs.Inputs.{Front, delta_in, gamma_in, m_in, max_input, of_input, BadInput, GoodInput, front_by, front_of, points_by, points_in, recording_by, recording_in}
 
 module _ (input : List ℕ) where
   -- the test, by its three parts
@@ -119,6 +119,9 @@ module _ (input : List ℕ) where
 
   pub parse_refused : {r : Refusal} → Parsed input (Err r) → number_of r ≡ of_input input
   parse_refused h = ap (λ (f : Front). f.refusal) h.front ∙ front_number
+
+  pub no_points_lem : {r : Refusal} → Parsed input (Err r) → points_in input ≡ take 0 input
+  no_points_lem h = sym h.points
 
   pub parse_accepted : {i : Input} → Parsed input (Ok i) → of_input input ≡ 0
   parse_accepted h = sym (ap (λ (f : Front). f.refusal) h.front ∙ front_number)

@@ -1,14 +1,17 @@
 -- Laws of what the checked types hold, and of what a call knows of its checked input. Assumes nothing.
-use Rattle.std.proofs.Common.{ℕ, ◌≡◌, ◌≤◌, List, [], ◌∷◌, ◌||◌, ◌==◌, ◌++◌, length, drop, replicate, refl, sym, ap, ◌∙◌, arith}
+use Rattle.std.proofs.Common.{ℕ, ◌≡◌, ◌≤◌, List, [], ◌∷◌, ◌||◌, ◌==◌, ◌++◌, length, drop, replicate, refl, sym, ap, ap₂, ◌∙◌, arith}
 use Rattle.fit.specs.Place.{d_of, g_of}
 use Rattle.fit.specs.Listing.{overlay}
-use Rattle.fit.specs.Refusal.{max_points, or_else, holds_zero}
+use Rattle.fit.specs.Refusal.{max_points, max_delta, max_gamma, or_else, holds_zero, of_profile, of_tolerance, of_recording, question_refusal, search_refusal, BadTolerance}
 use Rattle.std.specs.List.{list_any}
+use Rattle.std.specs.Prelude.{Result}
+use Rattle.std.specs.Result.{IsOkAnd, IsErrAnd}
 use Rattle.fit.specs.Spans.{spans_of}
-use Rattle.fit.specs.Refused.{number_of}
+use Rattle.fit.specs.Refused.{number_of, refusal_of, Gives}
 use Rattle.fit.specs.declared.refusal.Refusal.{Refusal}
 use Rattle.fit.proofs.Laws.Chains.{else_later, else_given}
-use Rattle.fit.proofs.Laws.Refused.{number_some}
+use Rattle.fit.proofs.Laws.Refused.{number_some, refusal_given, err_given, ok_given}
+use Rattle.fit.proofs.Laws.Refusals.{tolerance_bad, tolerance_good, question_joined, search_joined}
 use Rattle.limits.specs.declared.checked.Checked.{Checked}
 use Rattle.limits.specs.declared.profile.Profile.{Profile}
 use Rattle.limits.specs.declared.tolerance.Tolerance.{Tolerance}
@@ -23,6 +26,33 @@ told_first num first later e joined h = h ∙ sym (else_given first later (λ z.
 
 pub told_later : (num first later k : ℕ) → num ≡ or_else first later → first ≡ 0 → k ≡ later → k ≡ num
 told_later num first later k joined none h = h ∙ sym (else_later first later none) ∙ sym joined
+
+-- ---- what a tolerance and a profile answer, by their input
+module _ (delta gamma : ℕ) (r : Result Tolerance Refusal) (given : Gives (of_tolerance delta gamma) (OfTolerances delta gamma) r) where
+  pub tolerance_refused : BadTolerance delta gamma → IsErrAnd r (λ e. number_of e ≡ 2)
+  tolerance_refused b = rw (tolerance_bad delta gamma b) at (err_given (of_tolerance delta gamma) (OfTolerances delta gamma) r (omega (arith, tolerance_bad delta gamma b)) given)
+
+  pub tolerance_made_lem : delta ≤ max_delta → gamma ≤ max_gamma → IsOkAnd r (OfTolerances delta gamma)
+  tolerance_made_lem a b = ok_given (of_tolerance delta gamma) (OfTolerances delta gamma) r (tolerance_good delta gamma a b) given
+
+module _ (x : List ℕ) (r : Result Profile Refusal) (given : Gives (of_profile x) (OfPoints x) r) where
+  -- refused by a reason's number
+  pub profile_refused : (num : ℕ) → 1 ≤ num → of_profile x ≡ num → IsErrAnd r (λ e. number_of e ≡ num)
+  profile_refused num some h = rw h at (err_given (of_profile x) (OfPoints x) r (omega (arith, some, h)) given)
+
+  pub profile_made_lem : of_profile x ≡ 0 → IsOkAnd r (OfPoints x)
+  profile_made_lem none = ok_given (of_profile x) (OfPoints x) r none given
+
+-- ---- the checked input of a call: the numbers in their order, and what was made
+pub question_checked_lem : (delta gamma num : ℕ) (x : List ℕ) (p : Result Profile Refusal) (t : Result Tolerance Refusal) → Gives (of_profile x) (OfPoints x) p
+    → Gives (of_tolerance delta gamma) (OfTolerances delta gamma) t → num ≡ or_else (refusal_of p) (refusal_of t) → num ≡ question_refusal delta gamma x
+question_checked_lem delta gamma num x p t a b joined =
+    joined ∙ ap₂ or_else (refusal_given _ (OfPoints x) p a) (refusal_given _ (OfTolerances delta gamma) t b) ∙ sym (question_joined delta gamma x)
+
+pub search_checked_lem : (delta gamma num late : ℕ) (x y : List ℕ) (q : Result Checked Refusal) → Gives (question_refusal delta gamma x) (Carries delta gamma x) q
+    → late ≡ of_recording y → num ≡ or_else (refusal_of q) late → num ≡ search_refusal delta gamma x y
+search_checked_lem delta gamma num late x y q a l joined =
+    joined ∙ ap₂ or_else (refusal_given _ (Carries delta gamma x) q a) l ∙ sym (search_joined delta gamma x y)
 
 -- ---- a point is 0 exactly where one of the points equals 0
 pub any_zero : (x : List ℕ) → list_any (λ y. y == 0) x ≡ holds_zero x

@@ -10,11 +10,11 @@ use Rattle.std.specs.Result.{IsErrAnd}
 use Rattle.std.proofs.lemmas.Result.{err_from_is_err_and}
 use Rattle.fit.specs.Place.{d_of}
 use Rattle.fit.specs.Refusal.{or_else, question_refusal, Asked}
-use Rattle.fit.specs.Refused.{number_of}
+use Rattle.fit.specs.Refused.{number_of, refusal_of, Gives}
 use Rattle.fit.specs.Spans.{spans_of}
 use Rattle.fit.specs.declared.refusal.Refusal.{Refusal}
 use Rattle.fit.proofs.Laws.Refusals.{asked_accepted}
-use Rattle.fit.proofs.Laws.Refused.{number_some, number_only}
+use Rattle.fit.proofs.Laws.Refused.{number_some, number_only, refusal_given}
 use Rattle.limits.specs.Made.{points_of, Carries}
 use Rattle.limits.specs.declared.checked.Checked.{Checked}
 use Rattle.limits.proofs.Laws.Constructed.{told_d, told_spans}
@@ -45,6 +45,22 @@ handed_jump num k r e q h =
 -- not refused, the jump
 pub granted : (num j k : ℕ) → num ≡ 0 → j ≡ k → jump_of (Ok j) ≡ jump_answer num k
 granted num j k z q = rw q (sym (ap (λ (n : ℕ). record { refusal = n; jump = k }) z) ∙ granted_is num k z)
+
+-- ---- a question about one reading, by what the spans of its profile answer
+module _ (delta gamma : ℕ) (x : List ℕ) where
+  pub reading_refused : (k : ℕ) (e : Refusal) → Gives (question_refusal delta gamma x) (Compiles (d_of delta gamma) x) (Err e)
+      → jump_of (Err e) ≡ jump_answer (question_refusal delta gamma x) k
+  reading_refused k e h = handed_jump (question_refusal delta gamma x) k (Err e) e refl h
+
+  pub reading_granted : (j k : ℕ) (s : Spans) → Gives (question_refusal delta gamma x) (Compiles (d_of delta gamma) x) (Ok s)
+      → (Asked delta gamma x → Compiles (d_of delta gamma) x s → j ≡ k) → jump_of (Ok j) ≡ jump_answer (question_refusal delta gamma x) k
+  reading_granted j k s h f = granted (question_refusal delta gamma x) j k h.0 (f (asked_accepted delta gamma x h.0) h.1)
+
+-- the number of the mismatch question, by that of its checked input
+pub mismatch_number : (delta gamma : ℕ) (x : List ℕ) (q : Result Checked Refusal) → Gives (question_refusal delta gamma x) (Carries delta gamma x) q
+    → (p num late : ℕ) → late ≡ of_point (length x) p → num ≡ or_else (refusal_of q) late → num ≡ mismatch_refusal delta gamma x p
+mismatch_number delta gamma x q a p num late l joined =
+    joined ∙ ap₂ or_else (refusal_given _ (Carries delta gamma x) q a) l ∙ sym (mismatch_joined delta gamma x p)
 
 -- ---- what a question knows past its refusals: it has what its rule needs
 module _ (delta gamma : ℕ) (x : List ℕ) where

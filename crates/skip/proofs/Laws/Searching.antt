@@ -60,7 +60,7 @@ module _ (r : Rule) (m gamma : ℕ) (y : List ℕ) {entry held : Lent} where
       (kept_none (sought_by r m gamma y) (λ s. all_fit r.fit y s m) (by_all r m gamma y) _ count (none_fit r.fit m y from low clear) long refl)))
 
   -- probes were passed, and their windows noted at once
-  pass_along : (from q windows : ℕ) {before found : Found} → 1 ≤ m → m ≤ from + 1 → Passed r.fit m y from q windows → found ≡ missed windows before
+  pub pass_along : (from q windows : ℕ) {before found : Found} → 1 ≤ m → m ≤ from + 1 → Passed r.fit m y from q windows → found ≡ missed windows before
       → Arrived r m gamma y entry from held before → Arrived r m gamma y entry q held found
   pass_along from q windows {before} pos low p e a = subst (Arrived r m gamma y entry q held) (sym e) (passed_along before pos low p a)
 
