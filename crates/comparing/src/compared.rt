@@ -1,20 +1,28 @@
 // What a search needs to compare points: their order, and the mismatch jump of each.
 ghost use Rattle.std.specs.Prelude.{◌≡◌, ◌≤◌, ◌<◌, length};
 ghost use Rattle.fit.specs.Refusal.{max_points};
-ghost use Rattle.jumps.specs.Jumps.{mismatch_at, mismatch_jump};
+ghost use Rattle.jumps.specs.Jumps.{agrees_at, mismatch_at, mismatch_jump};
 ghost use Rattle.comparing.specs.Order.{compare_order, ComparedAt, agreeing};
-ghost use Rattle.tables.specs.Holding.{Holds, Usable};
+ghost use Rattle.tables.specs.Holding.{Holds};
 ghost use Rattle.comparing.specs.Writing.{HoldsOrder, HoldsAgreeing};
 
-use super::order;
-use super::points::Points;
+use super::{lone, order};
 use limits::Profile;
+use tables::Points;
 
 // The points in the order in which they are compared, and the mismatch jump of each point.
 #[derive(Clone, Copy)]
 pub struct Compared {
     pub order: [u8; Profile::MAX_POINTS],
     pub jumps: [u8; Profile::MAX_POINTS],
+}
+
+// Whether point q lies before the window that a jump of k lands on, or is alike to the point that comes to stand there.
+fn agrees(x: &Points, k: usize, q: usize) -> bool
+    requires { q < length x.now.points.now }
+    ensures { result ≡ agrees_at x.now.d x.now.points.now k q }
+{
+    q < k || reading::are_alike(2 * x.d, x.points[q - k], x.points[q])
 }
 
 // The points, and the order in which they are compared.
@@ -33,7 +41,7 @@ impl Ordered<'_> {
     {
         let m = self.points.points.len();
         for (j, q) in self.order[..m].iter().enumerate() {
-            if !self.points.agrees(k, usize::from(*q)) {
+            if !agrees(&self.points, k, usize::from(*q)) {
                 return j;
             }
         }
@@ -62,7 +70,7 @@ impl Agreed<'_> {
         requires { ComparedAt self.now.ordered.points.d self.now.ordered.points.points.now j p × (k < length self.now.ordered.points.points.now) }
         ensures { result ≡ mismatch_at self.now.ordered.points.d self.now.ordered.points.points.now p k }
     {
-        j <= usize::from(self.agreed[k]) && self.ordered.points.lone_at(p, k)
+        j <= usize::from(self.agreed[k]) && lone::lone_at(&self.ordered.points, p, k)
     }
 
     // The mismatch jump of point p, which is compared at position j.
@@ -93,15 +101,16 @@ impl Agreed<'_> {
 }
 
 // The order and the jumps: built once per search, in about four times m times m steps.
-pub fn compared_of(points: &[u8], d: u32) -> Compared
-    requires { Usable d points.now }
-    ensures { HoldsOrder d points.now result.order
-        × Holds (mismatch_jump d points.now) (length points.now) max_points result.jumps }
+pub fn compared_of(points: &Points) -> Compared
+    ensures { HoldsOrder points.now.d points.now.points.now result.order
+        × Holds (mismatch_jump points.now.d points.now.points.now) (length points.now.points.now) max_points result.jumps }
 {
-    let points = Points { points, d };
-    let lone = points.lone_table();
+    let lone = lone::lone_table(points);
     let order = order::order_of(&lone[..points.points.len()]);
-    let ordered = Ordered { points, order };
+    let ordered = Ordered {
+        points: *points,
+        order,
+    };
     let agreed = ordered.agreeing_table();
     let jumps = Agreed { ordered, agreed }.mismatch_table();
     Compared { order, jumps }

@@ -3,7 +3,7 @@
 #![tactic(auto)]
 
 mod compared;
+mod lone;
 mod order;
-mod points;
 
 pub use compared::{Compared, compared_of};

@@ -74,6 +74,7 @@ fn over_spans<'a>(prepared: &'a Prepared, gamma: u32, recording: &[u8]) -> First
     let spans = &prepared.spans;
     let before = spans.m - 1;
     let mut tried = 0;
+    // where the window's last reading stands; a `while`, since each step is a jump of its own length
     let mut q = prepared.tried_from(recording, before);
     while q < recording.len() {
         let landing = prepared.lands_at(recording, q);

@@ -29,6 +29,7 @@ pub fn head_of(bytes: &[u8]) -> Head
     }
 }
 
+// Not one function with two_at by the count of bytes: what reads [u8; N] has a loop and two proof files, and these two need none.
 fn four_at(bytes: &[u8], from: usize) -> u32
     requires { from ≤ 12 }
     ensures { result ≡ number_at bytes.now from 4 }

@@ -1,6 +1,7 @@
 // The input of the program, taken apart.
 #![tactic(auto)]
 
+ghost use Rattle.std.specs.Option.{ok_or};
 ghost use Rattle.input.specs.Told.{Parsed};
 
 use fit::Refusal;
@@ -22,16 +23,20 @@ impl<'a> Input<'a> {
     pub fn parse(bytes: &'a [u8]) -> Result<Input<'a>, Refusal>
         ensures { Parsed bytes.now result }
     {
+        Input::read(bytes).ok_or(Refusal::BadInput)
+    }
+
+    fn read(bytes: &'a [u8]) -> Option<Input<'a>>
+        ensures { Parsed bytes.now (ok_or result Refusal.BadInput) }
+    {
         if MAX_INPUT < bytes.len() {
-            return Err(Refusal::BadInput);
+            return None;
         }
         let [delta, high, low, m, rest @ ..] = bytes else {
-            return Err(Refusal::BadInput);
+            return None;
         };
-        let Some((points, recording)) = rest.split_at_checked(usize::from(*m)) else {
-            return Err(Refusal::BadInput);
-        };
-        Ok(Input {
+        let (points, recording) = rest.split_at_checked(usize::from(*m))?;
+        Some(Input {
             delta: u32::from(*delta),
             gamma: u32::from(u16::from_be_bytes([*high, *low])),
             points,

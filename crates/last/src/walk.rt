@@ -34,6 +34,7 @@ impl Prepared {
     pub fn tried_from(&self, recording: &[u8], from: usize) -> usize
         ensures { result ≡ seek self.now.table recording.now from }
     {
+        // a `while`, here and where windows are tried: each step is a jump of its own length, which no range counts
         let mut q = from;
         while q < recording.len() {
             let jump = tables::jump_at(&self.table, recording[q]);

@@ -14,12 +14,12 @@ use comparing::Compared;
 use fit::Found;
 use noting::Lists;
 use spans::Spans;
+use tables::Points;
 
 // Goes along the walk, with what it goes by: the spans of the profile, the next-reading jumps of all readings, the order in which points are
 // compared, and their mismatch jumps. Lists the places and their sums, and counts the places and the windows tried.
 pub fn walk<'a>(
-    points: &[u8],
-    d: u32,
+    points: &Points,
     gamma: u32,
     spans: &Spans,
     next: &[u8; 256],
@@ -27,27 +27,27 @@ pub fn walk<'a>(
     recording: &[u8],
     lists: &mut Lists,
 ) -> Found
-    requires walkable { Walkable d gamma points.now recording.now spans.now.rows next.now compared.now.order compared.now.jumps }
-    requires same_points { spans.now.m ≡ length points.now }
-    ensures answer { Answer 0 (sought_by (rule_in spans.now.rows) (length points.now) gamma recording.now)
-        (length (maximal_walk d points.now recording.now))
+    requires walkable { Walkable points.now.d gamma points.now.points.now recording.now spans.now.rows next.now compared.now.order compared.now.jumps }
+    requires same_points { spans.now.m ≡ length points.now.points.now }
+    ensures answer { Answer 0 (sought_by (rule_in spans.now.rows) (length points.now.points.now) gamma recording.now)
+        (length (maximal_walk points.now.d points.now.points.now recording.now))
         (lent_in lists.old) (told result) (lent_in lists.new) }
     ensures same { Same lists.old lists.new }
 {
-    let m = points.len();
-    let full = tables::full_jump(points, d);
+    let m = points.points.len();
+    let full = points.full_jump();
     // the readings that are near the point that is compared first, and the jumps where the window's is none of them
     let first = usize::from(compared.order[0]);
-    let least = reading::least_near(points[first], d);
-    let more = reading::most_near(points[first], d) - least;
+    let least = reading::least_near(points.points[first], points.d);
+    let more = reading::most_near(points.points[first], points.d) - least;
     let leaps = step::leap_table(next, compared.jumps[first]);
     let mut found = Found::default();
-    // where the reading after the window stands
+    // where the reading after the window stands; a `while`, since each step is a jump of its own length
     let mut e = m;
     while e < recording.len() {
         let s = e - m;
         if reading::is_among(least, more, recording[s + first]) {
-            let leading = step::near_points(points, d, &compared.order, recording, s);
+            let leading = step::near_points(points, &compared.order, recording, s);
             // the jump is looked up before the window is tried: so the compiler keeps in registers what each step needs
             let jump = step::compared_jump(m, compared, full, leading);
             let longer = tables::jump_at(next, recording[e]).max(jump);

@@ -15,27 +15,22 @@ use comparing::Compared;
 use fit::Found;
 use noting::Lists;
 use spans::Spans;
+use tables::Points;
 
 // How many points, in compare order, are near in the window at s before one that is not, where the first is.
-pub(crate) fn near_points(
-    points: &[u8],
-    d: u32,
-    order: &[u8; 64],
-    recording: &[u8],
-    s: usize,
-) -> usize
-    requires holds_order { HoldsOrder d points.now order.now × (length points.now ≤ max_points) × (s + length points.now ≤ length recording.now) }
-    requires in_bounds { (1 ≤ length points.now) × (near_at d points.now recording.now s (get_or order.now 0 0) ≡ true) }
-    ensures { (result ≡ leading (near_at d points.now recording.now s) (compare_order d points.now))
-        × (result ≤ length points.now) }
+pub(crate) fn near_points(x: &Points, order: &[u8; 64], recording: &[u8], s: usize) -> usize
+    requires holds_order { HoldsOrder x.now.d x.now.points.now order.now × (s + length x.now.points.now ≤ length recording.now) }
+    requires first_near { near_at x.now.d x.now.points.now recording.now s (get_or order.now 0 0) ≡ true }
+    ensures { (result ≡ leading (near_at x.now.d x.now.points.now recording.now s) (compare_order x.now.d x.now.points.now))
+        × (result ≤ length x.now.points.now) }
 {
-    for j in 1..points.len() {
+    for j in 1..x.points.len() {
         let q = usize::from(order[j]);
-        if !reading::is_near(d, points[q], recording[s + q]) {
+        if !reading::is_near(x.d, x.points[q], recording[s + q]) {
             return j;
         }
     }
-    points.len()
+    x.points.len()
 }
 
 // Tries the window at s, of whose points `leading` are near before one that is not: where all m are, only its sum is left to ask.

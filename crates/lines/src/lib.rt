@@ -17,7 +17,7 @@ fn put_ended(page: &mut Page, x: u64)
     page.put_text(b"\n");
 }
 
-// `NAME refused NUMBER`.
+// `NAME refused NUMBER`. The number and no `Refusal`, which would ask more of callers than the contract did.
 pub fn put_refused(page: &mut Page, name: &[u8], number: u32)
     ensures { Puts page.old (refused_line name.now number) page.new }
 {

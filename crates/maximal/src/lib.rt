@@ -8,6 +8,7 @@ ghost use Rattle.leaping.specs.Walk.{maximal_walk};
 
 use fit::{Found, Refusal};
 use noting::Lists;
+use tables::Points;
 
 // Lists the places of the profile in the recording and their sums, and counts the places and the windows tried.
 pub fn search(
@@ -26,16 +27,11 @@ pub fn search(
     let d = checked.tolerance.d();
     let spans = ordinary::spans_of(&checked.profile, d);
     let next = tables::next_table(&spans);
-    let compared = comparing::compared_of(points, d);
+    let points = Points { points, d };
+    let compared = comparing::compared_of(&points);
+    let mut lists = Lists { list, sums };
     let found = leaping::walk(
-        points,
-        d,
-        gamma,
-        &spans,
-        &next,
-        &compared,
-        recording,
-        &mut Lists { list, sums },
+        &points, gamma, &spans, &next, &compared, recording, &mut lists,
     );
     Ok(found)
 }

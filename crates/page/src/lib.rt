@@ -1,4 +1,5 @@
-// A page: bytes that are put one behind the other and then written at once, since each write costs a call of the system.
+// A page: bytes that are put one behind the other and then written at once, since each write costs a call of the system. No `write!` to it: all that the
+// library says of one is what it wrote if it succeeds, and no text on a page fails.
 #![tactic(auto)]
 
 ghost use Rattle.std.specs.Prelude.{◌≡◌, take};

@@ -11,6 +11,7 @@ ghost use Rattle.questions.specs.Asking.{Compiles, jump_of, jump_answer, of_poin
 use fit::Refusal;
 pub use judging::{FlatVerdict, check};
 use spans::Spans;
+use tables::Points;
 
 // The answer for C, which has no enum: refused, the number of the refusal and a jump of 0; else 0 and the jump.
 #[repr(C)]
@@ -79,7 +80,7 @@ pub fn after_check(points: &[u8], delta: u32, gamma: u32) -> Result<usize, Refus
 {
     let checked = limits::checked_question(points, delta, gamma)?;
     let d = checked.tolerance.d();
-    Ok(tables::after_jump(points, d))
+    Ok(Points { points, d }.after_jump())
 }
 
 // The full jump.
@@ -88,7 +89,7 @@ pub fn full(points: &[u8], delta: u32, gamma: u32) -> Result<usize, Refusal>
 {
     let checked = limits::checked_question(points, delta, gamma)?;
     let d = checked.tolerance.d();
-    Ok(tables::full_jump(points, d))
+    Ok(Points { points, d }.full_jump())
 }
 
 // The mismatch jump at point number p, from 1 to m.
@@ -98,7 +99,7 @@ pub fn mismatch(points: &[u8], delta: u32, gamma: u32, p: usize) -> Result<usize
     let checked = limits::checked_question(points, delta, gamma)?;
     of_point(points.len(), p)?;
     let d = checked.tolerance.d();
-    let compared = comparing::compared_of(points, d);
+    let compared = comparing::compared_of(&Points { points, d });
     Ok(usize::from(compared.jumps[p - 1]))
 }
 

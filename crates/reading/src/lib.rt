@@ -59,7 +59,7 @@ pub fn is_among(least: u8, more: u8, a: u8) -> bool
     a.wrapping_sub(least) <= more
 }
 
-// A byte as an index, or as any number that is counted with.
+// A byte as an index, or as any number that is counted with. It stays beside `usize::from` for what it promises and for its wrong answers.
 pub fn index(a: u8) -> usize
     ensures { (result ≡ a) × (result ≤ highest) }
 {

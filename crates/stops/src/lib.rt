@@ -106,6 +106,7 @@ fn try_marked(
 {
     let mut found = before;
     let mut left = mask;
+    // a `while`: each turn takes the highest mark that is left, and no range counts them
     while 0 < left {
         let taken = marks::take_highest(left);
         left = taken.left;

@@ -3,13 +3,11 @@
 #![tactic(auto)]
 
 mod filling;
+mod points;
 mod seeking;
-mod several;
 mod single;
 
 pub use filling::table_of;
+pub use points::Points;
 pub use seeking::least;
-pub use several::full_jump;
-pub use single::{
-    after_jump, jump_at, last_jump, last_table, next_jump, next_table, seen_jump, seen_table,
-};
+pub use single::{jump_at, last_jump, last_table, next_jump, next_table, seen_jump, seen_table};

@@ -1,11 +1,11 @@
-// The rules that look at one reading, or at the last point.
-ghost use Rattle.std.specs.Prelude.{◌≡◌, ◌+◌, ◌-◌, ◌*◌, ◌≤◌, length, get_or};
-ghost use Rattle.fit.specs.Reading.{highest, alike};
+// The rules that look at one reading.
+ghost use Rattle.std.specs.Prelude.{◌≡◌, ◌+◌, ◌-◌, ◌≤◌, get_or};
+ghost use Rattle.fit.specs.Reading.{highest};
 ghost use Rattle.fit.specs.Refusal.{max_points};
 ghost use Rattle.fit.specs.Spans.{rule_in};
 ghost use Rattle.jumps.specs.Least.{greatest};
-ghost use Rattle.jumps.specs.Jumps.{last_jump, next_jump, seen_jump, after_jump};
-ghost use Rattle.tables.specs.Holding.{Holds, Usable};
+ghost use Rattle.jumps.specs.Jumps.{last_jump, next_jump, seen_jump};
+ghost use Rattle.tables.specs.Holding.{Holds};
 
 use super::{filling, seeking};
 use spans::Spans;
@@ -87,14 +87,4 @@ pub fn next_table(spans: &Spans) -> [u8; 256]
     ensures { Holds (next_jump (rule_in spans.now.rows).fit spans.now.m) 256 256 result }
 {
     jump_table(spans, spans.m, spans.m + 1)
-}
-
-// The after-check jump.
-pub fn after_jump(points: &[u8], d: u32) -> usize
-    requires { Usable d points.now }
-    ensures { result ≡ after_jump d points.now }
-{
-    let m = points.len();
-    let last = points[m - 1];
-    m - seeking::greatest(m - 1, |i| reading::are_alike(2 * d, points[i], last))
 }

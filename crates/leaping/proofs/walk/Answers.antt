@@ -3,14 +3,11 @@ use mathlib.Core.Path.{◌≡◌, refl, sym, ◌∙◌}
 use native.Mathlib.Omega.{arith}
 use Rattle.fit.proofs.Laws.Alongs.{along_start, along_same}
 use Rattle.fit.proofs.Laws.Answers.{noted_miss}
-use Rattle.fit.specs.Answer.{nothing, lent}
+use Rattle.fit.specs.Answer.{nothing}
 use Rattle.leaping.proofs.Laws.Prepared.{first_in, first_inside, first_near, none_leading, far_false, all_near, table_inside, near_goes, far_goes, along_step, walked, walked_last, walk_begins}
 use Rattle.noting.proofs.Laws.Handing.{same_still, same_on}
 use Rattle.noting.specs.Lists.{lent_in}
 use Rattle.leaping.proofs.walk.Goals as goal
-
-pub full_jump-full-requires : goal.full_jump-full-requires
-full_jump-full-requires c = let ok = c.requires.walkable.ok.asked in record { some = ok.some; few = ok.few; small = ok.delta_small; real = ok.real }
 
 pub bounds-points-first : goal.bounds-points-first
 bounds-points-first c = first_in c.requires.walkable c.from-first.ensures
@@ -55,8 +52,8 @@ near_points-leading-requires c =
     let known = c.loop-e.invariant.0 in
     let ok = known.ready.ok.asked in
     let near = sym (first_near known _ _ _ refl c.is_among.ensures) ∙ c.if-is_among.true in record {
-      holds_order = (known.ready.orders, ok.few, omega arith);
-      in_bounds = (ok.some, rw (← known.foremost) near);
+      holds_order = (known.ready.orders, omega arith);
+      first_near = rw (← known.foremost) near;
     }
 
 pub compared_jump-jump-requires : goal.compared_jump-jump-requires

@@ -12,8 +12,8 @@ use Rattle.leaping.proofs.walk.Given as goal
 
 abbrev pub invariant-loop-e : goal.invariant-loop-e
 invariant-loop-e l =
-    Prepared l.gamma l.points l.recording l.d l.spans.rows l.next l.compared.order l.compared.jumps l.full l.first l.least l.more l.leaps × (length l.points ≤ l.e)
-    × Along (sought_by (rule_in l.spans.rows) (length l.points) l.gamma l.recording) (maximal_walk l.d l.points l.recording) (left l.d l.points l.recording (l.e - length l.points)) (l.e - length l.points)
+    Prepared l.gamma l.points.points.now l.recording l.points.d l.spans.rows l.next l.compared.order l.compared.jumps l.full l.first l.least l.more l.leaps × (length l.points.points.now ≤ l.e)
+    × Along (sought_by (rule_in l.spans.rows) (length l.points.points.now) l.gamma l.recording) (maximal_walk l.points.d l.points.points.now l.recording) (left l.points.d l.points.points.now l.recording (l.e - length l.points.points.now)) (l.e - length l.points.points.now)
     (lent_in l.initial.lists) (lent_in l.lists) l.found
     × Same l.initial.lists l.lists
 

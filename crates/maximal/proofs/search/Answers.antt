@@ -20,10 +20,10 @@ spans_of-spans-requires c =
     let at = passed _ _ _ _ c.in_ok-checked.ensures in
     may_compile _ _ _ at.ok.asked at.carries c.d-d.ensures
 
-pub compared_of-compared-requires : goal.compared_of-compared-requires
-compared_of-compared-requires c =
+pub invariant_of-points : goal.invariant_of-points
+invariant_of-points c =
     let at = passed _ _ _ _ c.in_ok-checked.ensures in
-    usable _ _ _ _ (told_d _ _ _ at.carries c.d-d.ensures) at.ok.asked
+    record { usable = usable _ _ _ _ (told_d _ _ _ at.carries c.d-d.ensures) at.ok.asked }
 
 pub walk-found-requires : goal.walk-found-requires
 walk-found-requires c =

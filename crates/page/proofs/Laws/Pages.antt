@@ -122,3 +122,10 @@ puts_both a b {p} h k = record {
 -- a text that equals what was put
 pub puts_same : {a b : List ℕ} {p q : Page} → a ≡ b → Puts p a q → Puts p b q
 puts_same e h = rw e at h
+
+-- no second page is left
+pub no_second_puts : (p : Page) (text : List ℕ) {q q' : Page} → Puts p text q → Puts p text q'
+    → (q.end ≡ q'.end) × (q.bytes.now ≡ q'.bytes.now) × (q.bytes.ghost_name ≡ q'.bytes.ghost_name)
+no_second_puts p text h k =
+    let same = no_second_page p.bytes.now p.end text _ _ _ _ h.put k.put in
+    (same.0, same.1, h.same ∙ sym k.same)

@@ -8,8 +8,8 @@ use Rattle.questions.proofs.after_check.Goals as goal
 pub returns-in_err-checked : goal.returns-in_err-checked
 returns-in_err-checked c = handed_jump _ _ _ _ c.from_residual.ensures.1 c.in_err-checked.ensures
 
-pub after_jump-requires : goal.after_jump-requires
-after_jump-requires c = question_usable _ _ _ c.in_ok-checked.ensures _ c.d-d.ensures
+pub invariant_of-after_jump : goal.invariant_of-after_jump
+invariant_of-after_jump c = record { usable = question_usable _ _ _ c.in_ok-checked.ensures _ c.d-d.ensures }
 
 pub returns : goal.returns
 returns c =

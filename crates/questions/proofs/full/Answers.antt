@@ -8,8 +8,8 @@ use Rattle.questions.proofs.full.Goals as goal
 pub returns-in_err-checked : goal.returns-in_err-checked
 returns-in_err-checked c = handed_jump _ _ _ _ c.from_residual.ensures.1 c.in_err-checked.ensures
 
-pub full_jump-requires : goal.full_jump-requires
-full_jump-requires c = question_usable _ _ _ c.in_ok-checked.ensures _ c.d-d.ensures
+pub invariant_of-full_jump : goal.invariant_of-full_jump
+invariant_of-full_jump c = record { usable = question_usable _ _ _ c.in_ok-checked.ensures _ c.d-d.ensures }
 
 pub returns : goal.returns
 returns c =

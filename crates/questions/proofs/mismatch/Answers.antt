@@ -18,10 +18,10 @@ returns-in_err-of_point c =
     handed_jump _ _ _ _ c.from_residual-in_err-of_point.ensures.1
     (told_later _ _ _ _ (mismatch_joined _ _ _ _) c.in_ok-checked.ensures.0 c.in_err-of_point.ensures)
 
-pub compared_of-compared-requires : goal.compared_of-compared-requires
-compared_of-compared-requires c =
+pub invariant_of-compared_of : goal.invariant_of-compared_of
+invariant_of-compared_of c =
     let at = mismatch_posed _ _ _ c.in_ok-checked.ensures _ c.in_ok-of_point.ensures in
-    usable _ _ _ _ (told_d _ _ _ at.carries c.d-d.ensures) at.ok.asked
+    record { usable = usable _ _ _ _ (told_d _ _ _ at.carries c.d-d.ensures) at.ok.asked }
 
 pub overflow_sub-p : goal.overflow_sub-p
 overflow_sub-p c = (mismatch_posed _ _ _ c.in_ok-checked.ensures _ c.in_ok-of_point.ensures).ok.from_one

@@ -5,13 +5,13 @@ use Rattle.comparing.proofs.Laws.Orders.{led_stop, led_end}
 use Rattle.leaping.proofs.Laws.Steps.{compared_at, compared_in}
 use Rattle.leaping.proofs.step.near_points.Goals as goal
 
-pub bounds-points-q : goal.bounds-points-q
-bounds-points-q c = compared_in _ _ _ _ _ c.requires.holds_order.0 (omega arith) c.from-q.ensures
+pub bounds-x-q : goal.bounds-x-q
+bounds-x-q c = compared_in _ _ _ _ _ c.requires.holds_order.0 (omega arith) c.from-q.ensures
 
 pub bounds-recording-s : goal.bounds-recording-s
 bounds-recording-s c =
     let inside = c.requires.holds_order in
-    omega (arith, inside.2, compared_in _ _ _ _ _ inside.0 (omega arith) c.from-q.ensures)
+    omega (arith, inside.1, compared_in _ _ _ _ _ inside.0 (omega arith) c.from-q.ensures)
 
 pub returns-then-not-is_near : goal.returns-then-not-is_near
 returns-then-not-is_near c =

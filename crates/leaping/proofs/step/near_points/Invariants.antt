@@ -4,4 +4,4 @@ use Rattle.leaping.specs.Walk.{near_at}
 use Rattle.leaping.proofs.step.near_points.Given as goal
 
 abbrev pub invariant-loop-j : goal.invariant-loop-j
-invariant-loop-j l = Led l.d l.points (near_at l.d l.points l.recording l.s) l.j
+invariant-loop-j l = Led l.x.d l.x.points.now (near_at l.x.d l.x.points.now l.recording l.s) l.j

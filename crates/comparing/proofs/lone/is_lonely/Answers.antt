@@ -3,7 +3,7 @@ use mathlib.Core.Path.{ap, ◌∙◌}
 use mathlib.Core.Bool.{not}
 use native.Mathlib.Omega.{arith}
 use Rattle.jumps.proofs.Laws.Nears.{low_decides, high_decides}
-use Rattle.comparing.proofs.points.is_lonely.Goals as goal
+use Rattle.comparing.proofs.lone.is_lonely.Goals as goal
 
 pub returns-then-not-is_near : goal.returns-then-not-is_near
 returns-then-not-is_near c =

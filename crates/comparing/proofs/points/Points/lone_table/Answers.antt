@@ -1,6 +1,0 @@
--- `Points::lone_table` meets its contract: a table of the lone jumps. Assumes nothing.
-use borrow.Author.Rules.{rules}
-use Rattle.comparing.proofs.points.Points.lone_table.Goals as goal
-
-pub returns : goal.returns
-returns c = c.table_of.ensures _ (λ p v l e. search rules)
