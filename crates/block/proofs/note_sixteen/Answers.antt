@@ -2,20 +2,15 @@
 use mathlib.Core.Path.{refl}
 use native.Mathlib.Omega.{arith}
 use Rattle.fit.proofs.Laws.Answers.{noted_as}
-use Rattle.fit.proofs.Laws.Runs.{running_start, running_one, running_end, run_no_place}
+use Rattle.fit.proofs.Laws.Runs.{running_one, running_end, run_no_place}
 use Rattle.block.proofs.Laws.Told.{told_at, told_sum_at, told_none}
-use Rattle.noting.proofs.Laws.Handing.{same_still, same_on}
+use Rattle.noting.proofs.Laws.Handing.{same_on}
 use Rattle.block.proofs.note_sixteen.Goals as goal
 
 pub returns-then-gamma-from-clause-tried : goal.returns-then-gamma-from-clause-tried
 returns-then-gamma-from-clause-tried c =
     run_no_place _ _ _
     (told_none c.args.scores.now c.args.s c.args.gamma c.args.at _ (omega arith) c.least_of.ensures (omega arith)) c.note_none.ensures
-
-pub loop-j-init : goal.loop-j-init
-loop-j-init c =
-    let known = c.requires in
-    (running_start _ _ _ _ _ refl refl known.total_le_tried.0 known.total_le_tried.1, same_still _)
 
 pub loop-j-preserved : goal.loop-j-preserved
 loop-j-preserved c =

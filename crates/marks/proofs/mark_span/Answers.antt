@@ -4,7 +4,7 @@ use native.Mathlib.Omega.{arith}
 use lib.ListN.{get_or}
 use lib.Bits.{bit_or}
 use Rattle.marks.proofs.Laws.Bits.{one_shifted}
-use Rattle.marks.proofs.Laws.Marking.{span_start, span_next, span_end}
+use Rattle.marks.proofs.Laws.Marking.{span_start, span_next}
 use Rattle.marks.proofs.mark_span.Goals as goal
 
 pub loop-a-init : goal.loop-a-init
@@ -17,6 +17,3 @@ loop-a-preserved c =
     let given = c.args in
     span_next given.masks.now given.low given.high given.i _ _ (omega arith) (omega arith) c.loop-a.invariant
     (ap (bit_or (get_or c.loop-a.masks c.loop-a.a 0)) (one_shifted _ c.requires))
-
-pub returns : goal.returns
-returns c = let given = c.args in span_end given.masks.now given.low given.high given.i _ (omega arith) c.loop-a.invariant

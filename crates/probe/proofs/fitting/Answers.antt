@@ -5,9 +5,6 @@ use native.Mathlib.Omega.{arith}
 use Rattle.probe.proofs.Laws.Arounds.{all_marks, none_marks}
 use Rattle.probe.proofs.fitting.Goals as goal
 
-pub loop-k-init : goal.loop-k-init
-loop-k-init c = (omega arith, λ fit t a. a)
-
 pub returns-then-mask-eq0 : goal.returns-then-mask-eq0
 returns-then-mask-eq0 c =
     let none : c.loop-k.mask ≡ 0 = omega arith in record {

@@ -5,7 +5,7 @@ use mathlib.Core.Bool.{Bool, cond}
 use native.Mathlib.Omega.{arith}
 use lib.ListN.{get_or}
 use Rattle.fit.specs.Spans.{rule_in}
-use Rattle.sieve.proofs.Laws.Passes.{sifting_start, sifting_next, sifting_end, passes_more, none_pass}
+use Rattle.sieve.proofs.Laws.Passes.{sifting_start, sifting_next, passes_more, none_pass}
 use Rattle.sieve.proofs.sift.Goals as goal
 
 pub returns-in_default : goal.returns-in_default
@@ -28,6 +28,3 @@ loop-j-preserved c =
     ∙ ap (λ (b : Bool). cond b (get_or c.loop-j.marks c.loop-j.j 0) 0)
     (c.in-Some.ensures _ _ _ (omega (arith, c.type_inv.recording (t + given.i)), omega (arith, c.type_inv.recording (t + (given.spans.now.m / 3 + given.i))), omega (arith, c.type_inv.recording (t + (given.spans.now.m - 1 - given.i)))))))
     c.max-most.ensures
-
-pub returns : goal.returns
-returns c = sifting_end _ _ _ _ c.loop-j-test.false (omega arith) c.loop-j.invariant
