@@ -14,7 +14,8 @@ pub struct Checked {
     pub tolerance: Tolerance,
 }
 
-// The input of a question, refused by 1, 7, 8 or 2.
+// The input of a question, refused by 1, 7, 8 or 2. Every call is handed points, delta and gamma one by one, unchecked, as README names them and C has
+// them; here they become one value, and go on as it.
 pub fn checked_question(points: &[u8], delta: u32, gamma: u32) -> Result<Checked, Refusal>
     ensures { Gives (question_refusal delta gamma points.now) (Carries delta gamma points.now) result }
 {

@@ -1,6 +1,6 @@
 // The sieve: which of 64 windows fit, that is, have all their readings suit their points. Most blocks have none, and most of these are seen after three
 // points. A point is one comparison of bytes, and no loop over the windows has a branch in it, so that the compiler makes vector instructions
-// of sixteen at once.
+// of sixteen at once. A mark is a byte too, 1 or 0: with bool the lines would be the same, and bytes are what these instructions hold.
 #![tactic(auto)]
 
 ghost use Rattle.std.specs.Prelude.{◌≡◌, ℕ, false, cond, ◌&&◌, ◌+◌, ◌*◌, ◌≤◌, ◌<◌, length, MatchOption};
