@@ -88,6 +88,7 @@ impl Additions {
     {
         for a in 0..256 {
             let from = a * used;
+            // a is below 256
             self.fill_row(points, a as u8, &mut table[from..from + used]);
         }
     }

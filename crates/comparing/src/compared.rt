@@ -48,7 +48,7 @@ impl Ordered<'_> {
         m
     }
 
-    // The same for every k below m.
+    // The same for every k below m; a count of points fits in a byte.
     fn agreeing_table(&self) -> [u8; Profile::MAX_POINTS]
         ensures { HoldsAgreeing self.now.points.d self.now.points.points.now result }
     {
@@ -85,7 +85,7 @@ impl Agreed<'_> {
         )
     }
 
-    // The mismatch jump of each point.
+    // The mismatch jump of each point. Not by `table_of`, since it goes by the order of the points and not by an index. Each jump fits in a byte.
     fn mismatch_table(&self) -> [u8; Profile::MAX_POINTS]
         ensures { let x = self.now.ordered.points in
             Holds (mismatch_jump x.d x.points.now) (length x.points.now) max_points result }

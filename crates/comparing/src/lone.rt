@@ -33,7 +33,7 @@ fn lone_jump(x: &Points, p: usize) -> usize
     tables::least(p + 1, |k| lone_at(x, p, k))
 }
 
-// The lone jumps of all points.
+// The lone jumps of all points. `as` here and below: each jump is at most 64, and `From` makes no byte of a `usize`.
 pub(crate) fn lone_table(x: &Points) -> [u8; Profile::MAX_POINTS]
     ensures { Holds (lone_jump x.now.d x.now.points.now) (length x.now.points.now) max_points result }
 {

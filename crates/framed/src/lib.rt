@@ -23,6 +23,7 @@ pub fn head_of(bytes: &[u8]) -> Head
         delta: four_at(bytes, 0),
         gamma: four_at(bytes, 4),
         m: usize::from(two_at(bytes, 8)),
+        // a `usize` has 64 bits, which `From` does not go by
         n: four_at(bytes, 10) as usize,
         room: usize::from(two_at(bytes, 14)),
         sums: usize::from(two_at(bytes, 16)),

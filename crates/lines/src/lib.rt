@@ -26,7 +26,7 @@ pub fn put_refused(page: &mut Page, name: &[u8], number: u32)
     put_ended(page, u64::from(number));
 }
 
-// `NAME TOTAL TRIED`.
+// `NAME TOTAL TRIED`. `as`, since there is no `From` of a `usize`, which has 64 bits.
 fn put_counts(page: &mut Page, name: &[u8], found: Found)
     ensures { Puts page.old (counts_line name.now found.total found.tried) page.new }
 {

@@ -33,6 +33,7 @@ pub fn search(
     let checked = limits::checked_search(points, delta, gamma, recording)?;
     let m = points.len();
     let d = checked.tolerance.d();
+    // m is at most 64, and so are the counters of a word
     let g = checked.tolerance.g(m as u32);
     let b = counters::low_bits(g);
     let masks = Masks::lay_out(b, u64::BITS / (b + 1), u64::from(g));

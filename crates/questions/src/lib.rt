@@ -38,7 +38,8 @@ impl From<Result<usize, Refusal>> for Jump {
     }
 }
 
-// What the questions about one reading go by: the spans of the profile.
+// What the three questions about one reading go by: the spans of the profile. Each is two lines beside this, with a promise of its own; one function
+// that is handed the rule would be no plainer.
 fn compile(points: &[u8], delta: u32, gamma: u32) -> Result<Spans, Refusal>
     ensures { Gives (question_refusal delta gamma points.now) (Compiles (d_of delta gamma) points.now) result }
 {

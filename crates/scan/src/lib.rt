@@ -53,7 +53,7 @@ impl Scan<'_> {
         lead
     }
 
-    // Which counter of its word is the last point's.
+    // Which counter of its word is the last point's: a number below 64.
     fn last_at(&self) -> u32
         ensures { (result ≡ (self.now.m - 1) % self.now.masks.per) × (result < self.now.masks.per) }
     {
@@ -79,6 +79,7 @@ impl Scan<'_> {
         }
         let width = self.masks.b + 1;
         let value = (word >> (width * at)) % (1u64 << width);
+        // a sum, and so at most gamma
         Some((value - self.masks.enter) as u16)
     }
 

@@ -44,7 +44,7 @@ fn begun(mark: u8) -> u16
     if mark == 0 { u16::MAX } else { 0 }
 }
 
-// The scores of 64 windows before their first point.
+// The scores of 64 windows before their first point. Not `marks.map(begun)`: it proves, and is compiled to three times the instructions and a copy.
 fn begun_all(marks: &[u8; 64]) -> [u16; 64]
     ensures { Entries (λ j. cond (eqb (get_or marks.now j 0) 0) most_score 0) 64 result }
 {

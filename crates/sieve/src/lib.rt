@@ -30,6 +30,7 @@ impl Range {
         if most < low {
             return None;
         }
+        // both are at most 255
         Some(Range {
             least: low as u8,
             more: (most - low) as u8,

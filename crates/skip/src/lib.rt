@@ -48,7 +48,7 @@ pub fn over_spans(spans: &Spans, gamma: u32, recording: &[u8], lists: &mut Lists
     let near = NearPoints::of(spans);
     let mut found = Found::default();
     let mut q = spans.m - 1;
-    // the probes all of whose windows lie inside
+    // the probes all of whose windows lie inside; a `loop`, since `next_stop` tells where the next one is and the walk behind it goes on from the last
     'stops: loop {
         let stop = stops::next_stop(&near, recording, q);
         found = noting::note_none(stop.windows, found);

@@ -2,7 +2,7 @@
 ghost use Rattle.std.specs.Prelude.{◌≡◌, ◌+◌, ◌-◌, ◌≤◌, ◌<◌, ℕ, Bool};
 ghost use Rattle.jumps.specs.Least.{greatest, least};
 
-// Document 01's number of the greatest of the first n points that passes; 0 if there is none.
+// Document 01's number of the greatest of the first n points that passes; 0 if there is none, and no `Option`, since the rules count from it.
 pub(crate) fn greatest<F: Fn(usize) -> bool>(n: usize, passes: F) -> usize
     requires { (i : ℕ) → i < n → F.pre passes i }
     ensures same { (test : ℕ → Bool) → ((i : ℕ) (b : Bool) → i < n → F.post passes i b → b ≡ test i) → result ≡ greatest test n }

@@ -45,6 +45,7 @@ fn jump_table(spans: &Spans, n: usize, top: usize) -> [u8; 256]
     requires { (n ≤ max_points) × (n ≤ top) × (top ≤ max_points + 1) }
     ensures { Holds (λ a. top - greatest (λ i. (rule_in spans.now.rows).fit i a) n) 256 256 result }
 {
+    // a is below 256, and a jump at most 65
     filling::table_of(256, |a| (top - greatest_near(spans, n, a as u8)) as u8)
 }
 

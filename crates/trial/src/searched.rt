@@ -26,7 +26,8 @@ pub(crate) fn searches(page: &mut Page, case: &Case) {
     first_place(page, case);
 }
 
-// The line of one searcher: its name, what it answers, and both lists, whose entries are all marked before the search.
+// The line of one searcher: its name, what it answers, and both lists, whose entries are all marked before the search. `as` here and below, since no
+// `From` goes by a `usize` having 64 bits.
 fn line<S>(page: &mut Page, case: &Case, name: &[u8], search: S)
 where
     S: FnOnce(&[u8], u32, u32, &[u8], &mut [u32], &mut [u16]) -> Result<Found, Refusal>,

@@ -40,6 +40,3 @@ returns-clause-answer c =
     along_end _ _ _ _ (λ s p. by_below _ _ _ _ s p) refl (last_rises _ _ _ known.ready.some)
     (λ s p. last_has _ _ _ _ known.ready.some s p)
     (along_same (stands_end _ _ _ _ _ _ _ inv.0 (omega arith)) inv.1)
-
-pub returns-clause-same : goal.returns-clause-same
-returns-clause-same c = c.loop-q.invariant.2

@@ -41,9 +41,6 @@ loop-e-init c =
       same_still _,
     )
 
-pub overflow_add-s : goal.overflow_add-s
-overflow_add-s c = let known = c.loop-e.invariant.0 in omega (arith, first_inside known, known.ready.ok.short, known.ready.ok.asked.few)
-
 pub bounds-recording-s : goal.bounds-recording-s
 bounds-recording-s c = let known = c.loop-e.invariant.0 in omega (arith, first_inside known)
 
@@ -82,12 +79,6 @@ loop-e-preserved-then-is_among c =
     let on = near_goes inv.0 _ _ _ _ _ inv.1 c.loop-e-test.true c.near_points-leading.ensures.0 c.compared_jump-jump.ensures c.jump_at.ensures.0 c.max-longer.ensures in
     (inv.0, omega (arith, inv.1), along_step inv.0 _ _ _ (omega arith) on.next inv.2 (rw c.requires.same_points at c.try_compared-found.ensures.tried), same_on inv.3 c.try_compared-found.ensures.same)
 
-pub note_none-found-requires : goal.note_none-found-requires
-note_none-found-requires c = let inv = c.loop-e.invariant in omega (arith, inv.0.ready.ok.short, inv.2.room)
-
-pub overflow_add-e-else-is_among : goal.overflow_add-e-else-is_among
-overflow_add-e-else-is_among c = let ok = c.loop-e.invariant.0.ready.ok in omega (arith, (far_goes c.loop-e.invariant.0 _ _ c.loop-e.invariant.1 c.loop-e-test.true (sym (first_near c.loop-e.invariant.0 _ _ _ refl c.is_among.ensures) ∙ c.if-is_among.false) c.jump_at-e.ensures.0).short, ok.short, ok.asked.few)
-
 pub loop-e-smaller : goal.loop-e-smaller
 loop-e-smaller c = omega (arith, (far_goes c.loop-e.invariant.0 _ _ c.loop-e.invariant.1 c.loop-e-test.true (sym (first_near c.loop-e.invariant.0 _ _ _ refl c.is_among.ensures) ∙ c.if-is_among.false) c.jump_at-e.ensures.0).forth)
 
@@ -98,15 +89,6 @@ loop-e-preserved c =
     let miss = far_false known _ 0 (none_leading known _ (sym (first_near c.loop-e.invariant.0 _ _ _ refl c.is_among.ensures) ∙ c.if-is_among.false)) known.ready.ok.asked.some in
     (known, omega (arith, inv.1), along_step known _ _ _ (omega arith) (far_goes c.loop-e.invariant.0 _ _ c.loop-e.invariant.1 c.loop-e-test.true (sym (first_near c.loop-e.invariant.0 _ _ _ refl c.is_among.ensures) ∙ c.if-is_among.false) c.jump_at-e.ensures.0).next inv.2 (rw c.note_none-found.ensures (noted_miss _ _ _ _ _ miss)), inv.3)
 
-pub try_at-requires : goal.try_at-requires
-try_at-requires c =
-    let same = c.requires.same_points in
-    let inv = c.loop-e.invariant in
-    let ok = inv.0.ready.ok in record {
-      le_m = (omega (arith, same, ok.asked.some), omega (arith, same), ok.asked.gamma_small);
-      s_bound = (omega (arith, ok.short), omega (arith, ok.short, inv.2.order, inv.2.room), omega (arith, ok.short, inv.2.room));
-    }
-
 pub returns-then-e-recording-clause-answer : goal.returns-then-e-recording-clause-answer
 returns-then-e-recording-clause-answer c =
     let inv = c.loop-e.invariant in
@@ -116,9 +98,3 @@ pub returns-clause-answer : goal.returns-clause-answer
 returns-clause-answer c =
     let at-loop = c.loop-e in
     walked at-loop.invariant.0 _ {held = lent_in at-loop.lists} (omega arith) at-loop.invariant.2
-
-pub returns-then-e-recording-clause-same : goal.returns-then-e-recording-clause-same
-returns-then-e-recording-clause-same c = same_on c.loop-e.invariant.3 c.try_at.ensures.same
-
-pub returns-clause-same : goal.returns-clause-same
-returns-clause-same c = c.loop-e.invariant.3

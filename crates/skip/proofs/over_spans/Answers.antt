@@ -57,9 +57,3 @@ returns-clause-answer c =
     let near = c.of-near.ensures in
     let at = stop_along _ _ _ _ _ _ _ _ _ _ _ c.requires.some inv.0 near.points near.masks near.counts c.next_stop-stop.ensures.by_index c.note_none-found.ensures inv.2 in
     walk_answer _ _ _ _ _ c.requires.some (omega arith) at.0
-
-pub returns-then-q-recording-clause-same : goal.returns-then-q-recording-clause-same
-returns-then-q-recording-clause-same c = same_on c.stops.invariant.3 c.try_probed.ensures.same
-
-pub returns-clause-same : goal.returns-clause-same
-returns-clause-same c = c.stops.invariant.3

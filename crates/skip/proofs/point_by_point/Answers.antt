@@ -10,9 +10,6 @@ use Rattle.skip.proofs.point_by_point.Goals as goal
 pub loop-at-init : goal.loop-at-init
 loop-at-init c = (omega arith, along_same (walk_start _ _ _ (omega arith)) (along_start _ _ _ _ (search rules)), same_still _)
 
-pub try_probed-found-requires-clause-total_le_tried : goal.try_probed-found-requires-clause-total_le_tried
-try_probed-found-requires-clause-total_le_tried c = let inv = c.loop-at.invariant in (inv.1.order, omega (arith, inv.0, inv.1.room))
-
 pub loop-at-preserved : goal.loop-at-preserved
 loop-at-preserved c =
     let inv = c.loop-at.invariant in
@@ -25,9 +22,3 @@ pub returns-2-clause-answer : goal.returns-2-clause-answer
 returns-2-clause-answer c =
     let inv = c.loop-at.invariant in
     walk_answer _ _ _ _ _ c.requires.some (omega arith) (along_probe _ _ _ _ _ c.requires.some inv.0 (omega arith) inv.1 c.try_probed-found.ensures.tried)
-
-pub returns-clause-same : goal.returns-clause-same
-returns-clause-same c = c.loop-at.invariant.2
-
-pub returns-2-clause-same : goal.returns-2-clause-same
-returns-2-clause-same c = same_on c.loop-at.invariant.2 c.try_probed-found.ensures.same

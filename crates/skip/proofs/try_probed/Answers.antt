@@ -1,17 +1,11 @@
 -- `skip::try_probed` meets its contract: it goes down the points, and tries the windows that the walk has for the probe. Assumes nothing.
 use mathlib.Core.Path.{◌≡◌, sym, ◌∙◌}
 use native.Mathlib.Omega.{arith}
-use Rattle.fit.proofs.Laws.Tryings.{trying_start, trying_next, trying_pass, trying_end}
+use Rattle.fit.proofs.Laws.Tryings.{trying_next, trying_pass, trying_end}
 use Rattle.skip.proofs.Laws.Walks.{probed_try, probed_far, probed_out, probed_none}
-use Rattle.noting.proofs.Laws.Handing.{same_still, same_on}
+use Rattle.noting.proofs.Laws.Handing.{same_on}
 use Rattle.skip.proofs.try_probed.Goals as goal
 use Rattle.skip.proofs.try_probed.Goals.{else-suits-via-then-suits+else-q-i, else-suits-via-else-suits}
-
-pub loop-i-init : goal.loop-i-init
-loop-i-init c = (trying_start _ _ _ _ _ c.requires.total_le_tried.0 (omega arith), same_still _)
-
-pub try_at-found-requires-clause-s_bound : goal.try_at-found-requires-clause-s_bound
-try_at-found-requires-clause-s_bound c = omega (arith, c.loop-i.invariant.0.order, c.loop-i.invariant.0.room)
 
 pub loop-i-preserved-then-q-i : goal.loop-i-preserved-then-q-i
 loop-i-preserved-then-q-i c = (

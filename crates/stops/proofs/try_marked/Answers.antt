@@ -1,7 +1,6 @@
 -- `stops::try_marked` meets its contract: it goes down the marked points, and tries their windows. Assumes nothing.
 use mathlib.Core.Path.{◌≡◌, sym, ◌∙◌}
 use native.Mathlib.Omega.{arith}
-use lib.Pow.{pow_pos}
 use Rattle.fit.proofs.Laws.Tryings.{trying_start, trying_next, trying_end}
 use Rattle.marks.proofs.Laws.Marking.{highest_top, top_all}
 use Rattle.stops.proofs.Laws.Probing.{marked_next, marked_none}
@@ -18,17 +17,6 @@ overflow_sub-at c =
     let inv = c.loop-left.invariant in
     let top = highest_top _ inv.0 _ _ _ inv.1.1 c.take_highest-taken.ensures in
     omega (arith, top.below, inv.1.0)
-
-pub try_fitting-found-requires : goal.try_fitting-found-requires
-try_fitting-found-requires c =
-    let inv = c.loop-left.invariant in
-    let top = highest_top _ inv.0 _ _ _ inv.1.1 c.take_highest-taken.ensures in
-    omega (arith, top.below, inv.1.0, inv.1.2, inv.1.3)
-
-pub loop-left-smaller : goal.loop-left-smaller
-loop-left-smaller c =
-    let highest = c.take_highest-taken.ensures in
-    omega (arith, highest.reached, highest.without, pow_pos c.take_highest-taken.result.point)
 
 pub loop-left-preserved : goal.loop-left-preserved
 loop-left-preserved c =
@@ -55,6 +43,3 @@ returns-clause-tried c =
     let inv = c.loop-left.invariant in
     let none_left : c.loop-left.left ≡ 0 = omega arith in
     λ marks. trying_end _ _ (inv.1.4 marks) (marked_none _ _ inv.0 (sym inv.1.1 ∙ none_left))
-
-pub returns-clause-same : goal.returns-clause-same
-returns-clause-same c = c.loop-left.invariant.1.5

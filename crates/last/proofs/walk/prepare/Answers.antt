@@ -1,14 +1,10 @@
 -- `last::prepare` meets its contract: refused as its checked input is, or what the walk goes by. Assumes nothing.
 use mathlib.Core.Path.{◌∙◌}
 use native.Mathlib.Omega.{arith}
-use Rattle.fit.proofs.Laws.Refused.{handed}
 use Rattle.limits.proofs.Laws.Constructed.{told_spans}
 use Rattle.limits.proofs.Laws.Openings.{passed, may_compile}
 use Rattle.last.proofs.Laws.Ordinary.{prepared_made}
 use Rattle.last.proofs.walk.prepare.Goals as goal
-
-pub returns-in_err-checked : goal.returns-in_err-checked
-returns-in_err-checked c = handed _ _ _ _ c.from_residual.ensures.1 c.in_err-checked.ensures
 
 pub spans_of-spans-requires : goal.spans_of-spans-requires
 spans_of-spans-requires c =

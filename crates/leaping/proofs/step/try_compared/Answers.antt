@@ -6,8 +6,3 @@ pub returns-then-leading-spans-clause-tried : goal.returns-then-leading-spans-cl
 returns-then-leading-spans-clause-tried c =
     let given = c.requires in
     rw c.note_none.ensures (noted_miss _ _ _ _ _ (given.s_value.0 c.if-leading-spans.true))
-
-pub returns-clause-tried : goal.returns-clause-tried
-returns-clause-tried c =
-    let given = c.requires in
-    c.try_fitting.ensures.tried (given.s_value.1 c.if-leading-spans.false)

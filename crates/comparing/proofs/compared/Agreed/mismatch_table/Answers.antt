@@ -9,11 +9,6 @@ use Rattle.comparing.proofs.compared.Agreed.mismatch_table.Goals as goal
 pub loop-j-init : goal.loop-j-init
 loop-j-init c = filling_none _ _ _ max_points
 
-pub mismatch_jump-requires : goal.mismatch_jump-requires
-mismatch_jump-requires c =
-    let o = c.args.self.now.ordered in
-    compared_there _ _ _ o.points.usable.few o.ordered _ _ c.loop-j-test.true c.from-p.ensures
-
 pub bounds-table-p : goal.bounds-table-p
 bounds-table-p c =
     let o = c.args.self.now.ordered in
