@@ -2,110 +2,82 @@
 // window that fits, and are only counted. A block leaves just what its windows leave when they are tried one by one.
 #![tactic(auto)]
 
-ghost use Rattle.std.specs.Prelude.{◌≡◌, ◌+◌, ◌≤◌, ◌<◌, ◌^◌, min, length};
+ghost use Rattle.std.specs.Prelude.{◌≡◌, ◌+◌, ◌≤◌, ◌<◌, ◌^◌, length, EachIndex, slice_index};
 ghost use Rattle.fit.specs.Spans.{rule_in, Ready};
-ghost use Rattle.fit.specs.Answer.{sought_by, lent};
+ghost use Rattle.fit.specs.Answer.{sought_by};
+ghost use Rattle.noting.specs.Lists.{lent_in, Same};
 ghost use Rattle.fit.specs.Trying.{TriedAll, run};
-ghost use Rattle.block.specs.Block.{told_by, NoneBelow};
+ghost use Rattle.block.specs.Block.{told_by};
 
-use fit::Search;
+use fit::Found;
+use noting::Lists;
+use spans::Spans;
 
-fn wide(score: u16) -> u32
-    ensures { result ≡ score }
+// The least of some scores; where there are none, the greatest that there can be.
+fn least_of(scores: &[u16]) -> u16
+    ensures { EachIndex scores.now (λ k. result ≤ slice_index scores.now k) }
 {
-    score as u32
+    scores.iter().copied().min().unwrap_or(u16::MAX)
 }
 
-fn smaller(a: u16, b: u16) -> u16
-    ensures { result ≡ min a b }
-{
-    if a < b { a } else { b }
-}
-
-// A score that none of the 16 from `at` on is below.
-fn least_of(scores: &[u16; 64], at: usize) -> u16
-    requires { (at + 16 ≤ 64) × (length scores.now ≡ 64) }
-    ensures { NoneBelow scores.now at 16 result }
-{
-    let mut least = 65535;
-    let mut j = 0;
-    while j < 16 {
-        least = smaller(least, scores[at + j]);
-        j += 1;
-    }
-    least
-}
-
-// Notes the windows from s + at on, 16 of them, by their scores.
+// Notes the windows from s + at on, 16 of them, by their scores. It is compiled by itself, and so has all registers for its loop.
+#[inline(never)]
 fn note_sixteen(
     gamma: u32,
-    list: &mut [u32],
-    sums: &mut [u16],
+    lists: &mut Lists,
     s: usize,
     scores: &[u16; 64],
     at: usize,
-    before: Search,
-) -> Search
-    requires at_bound { (at + 16 ≤ 64) × (length scores.now ≡ 64) × (s + 64 < 2 ^ 32) }
+    before: Found,
+) -> Found
+    requires at_bound { (at + 16 ≤ 64) × (s + 64 < 2 ^ 32) }
     requires total_le_tried { (before.total ≤ before.tried) × (before.tried ≤ s + at) }
-    ensures { TriedAll (told_by scores.now s gamma) (run (s + at) 16) before
-        (lent list.old sums.old) result (lent list.new sums.new) }
+    ensures tried { TriedAll (told_by scores.now s gamma) (run (s + at) 16) before
+        (lent_in lists.old) result (lent_in lists.new) }
+    ensures same { Same lists.old lists.new }
 {
-    if gamma < wide(least_of(scores, at)) {
+    if gamma < u32::from(least_of(&scores[at..at + 16])) {
         return window::note_none(16, before);
     }
     let mut found = before;
-    let mut j = at;
-    while j < at + 16 {
-        let score = scores[j];
-        found = window::note(list, sums, s + j, wide(score) <= gamma, score, found);
-        j += 1;
+    for j in at..at + 16 {
+        found = window::note_score(gamma, lists, s + j, scores[j], found);
     }
     found
 }
 
 // Notes the 64 windows from s on by their scores. Places stand close together, so most pieces of 16 have none, and are only counted.
-fn note_scored(
-    gamma: u32,
-    list: &mut [u32],
-    sums: &mut [u16],
-    s: usize,
-    scores: &[u16; 64],
-    before: Search,
-) -> Search
-    requires { (length scores.now ≡ 64) × (s + 64 < 2 ^ 32) × (before.total ≤ before.tried) × (before.tried ≤ s) }
-    ensures { TriedAll (told_by scores.now s gamma) (run s 64) before
-        (lent list.old sums.old) result (lent list.new sums.new) }
+fn note_scored(gamma: u32, lists: &mut Lists, s: usize, scores: &[u16; 64], before: Found) -> Found
+    requires { (s + 64 < 2 ^ 32) × (before.total ≤ before.tried) × (before.tried ≤ s) }
+    ensures tried { TriedAll (told_by scores.now s gamma) (run s 64) before
+        (lent_in lists.old) result (lent_in lists.new) }
+    ensures same { Same lists.old lists.new }
 {
     let mut found = before;
-    let mut at = 0;
-    while at < 64 {
-        found = note_sixteen(gamma, list, sums, s, scores, at, found);
-        at += 16;
+    for k in 0..4 {
+        found = note_sixteen(gamma, lists, s, scores, 16 * k, found);
     }
     found
 }
 
 // Tries the 64 windows from s on.
 pub fn try_block(
-    spans: &[u16; 256],
-    m: usize,
+    spans: &Spans,
     gamma: u32,
     recording: &[u8],
-    list: &mut [u32],
-    sums: &mut [u16],
+    lists: &mut Lists,
     s: usize,
-    before: Search,
-) -> Search
-    requires ready { Ready m gamma (length recording.now) × (s + 63 + m ≤ length recording.now) }
+    before: Found,
+) -> Found
+    requires ready { Ready spans.now.m gamma (length recording.now) × (s + 63 + spans.now.m ≤ length recording.now) }
     requires total_le_tried { (before.total ≤ before.tried) × (before.tried ≤ s) }
-    ensures { TriedAll (sought_by (rule_in spans.now) m gamma recording.now) (run s 64) before
-        (lent list.old sums.old) result (lent list.new sums.new) }
+    ensures tried { TriedAll (sought_by (rule_in spans.now.rows) spans.now.m gamma recording.now) (run s 64) before
+        (lent_in lists.old) result (lent_in lists.new) }
+    ensures same { Same lists.old lists.new }
 {
-    let fitting = sieve::sifted(spans, m, recording, s);
-    if fitting.any {
-        let scores = score::scores(spans, m, recording, s, &fitting.marks);
-        return note_scored(gamma, list, sums, s, &scores, before);
-    }
-    window::note_none(64, before)
+    let Some(marks) = sieve::sifted(spans, recording, s) else {
+        return window::note_none(64, before);
+    };
+    let scores = score::scores(spans, recording, s, &marks);
+    note_scored(gamma, lists, s, &scores, before)
 }

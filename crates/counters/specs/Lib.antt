@@ -3,4 +3,5 @@ pub mod Width
 pub mod Word
 pub mod Sums
 pub mod Words
+pub mod Masking
 pub mod Sound

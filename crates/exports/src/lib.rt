@@ -1,4 +1,5 @@
-// The boundary to C and Rust: a function for each searcher and each question, with the contract of what it calls; `first` and `check` are told in numbers.
+// The boundary to C and Rust: a function for each searcher and each question, with the contract of what it calls, told in numbers. Each stands by itself,
+// since C calls each by its name.
 // include/jilbaroof.h declares these functions for C, rust/jilbaroof.rs wraps them for Rust.
 #![tactic(auto)]
 
@@ -33,7 +34,7 @@ pub extern "C" fn jilbaroof_plain(
         (windows (length points.now) (length recording.now))
         (lent list.old sums.old) result (lent list.new sums.new) }
 {
-    plain::search(points, delta, gamma, recording, list, sums)
+    plain::search(points, delta, gamma, recording, list, sums).into()
 }
 
 // packed: a counter for each point, side by side in as many words as needed.
@@ -50,7 +51,7 @@ pub extern "C" fn jilbaroof_packed(
         (windows (length points.now) (length recording.now))
         (lent list.old sums.old) result (lent list.new sums.new) }
 {
-    packed::search(points, delta, gamma, recording, list, sums)
+    packed::search(points, delta, gamma, recording, list, sums).into()
 }
 
 // last: a window's last reading says how far to jump.
@@ -67,7 +68,7 @@ pub extern "C" fn jilbaroof_last(
         (length (last_walk_of delta gamma points.now recording.now))
         (lent list.old sums.old) result (lent list.new sums.new) }
 {
-    last::search(points, delta, gamma, recording, list, sums)
+    last::search(points, delta, gamma, recording, list, sums).into()
 }
 
 // skip: every m-th reading is probed.
@@ -84,7 +85,7 @@ pub extern "C" fn jilbaroof_skip(
         (length (skip_walk (fit_of (d_of delta gamma) points.now) (length points.now) recording.now))
         (lent list.old sums.old) result (lent list.new sums.new) }
 {
-    skip::search(points, delta, gamma, recording, list, sums)
+    skip::search(points, delta, gamma, recording, list, sums).into()
 }
 
 // maximal: the larger of the next-reading jump and the mismatch jump is taken.
@@ -101,7 +102,7 @@ pub extern "C" fn jilbaroof_maximal(
         (length (maximal_walk (d_of delta gamma) points.now recording.now))
         (lent list.old sums.old) result (lent list.new sums.new) }
 {
-    maximal::search(points, delta, gamma, recording, list, sums)
+    maximal::search(points, delta, gamma, recording, list, sums).into()
 }
 
 // The first place, or none, in numbers.
@@ -112,7 +113,7 @@ pub extern "C" fn jilbaroof_first(points: &[u8], delta: u32, gamma: u32, recordi
         (last_walk_of delta gamma points.now recording.now) }
 {
     let answer = first::search(points, delta, gamma, recording);
-    first::told(answer)
+    answer.into()
 }
 
 // The last-reading jump for reading a.
@@ -121,7 +122,7 @@ pub extern "C" fn jilbaroof_last_reading(points: &[u8], delta: u32, gamma: u32, 
     ensures { result ≡ jump_answer (question_refusal delta gamma points.now)
         (last_jump (fit_of (d_of delta gamma) points.now) (length points.now) a) }
 {
-    questions::last_reading(points, delta, gamma, a)
+    questions::last_reading(points, delta, gamma, a).into()
 }
 
 // The next-reading jump for reading a.
@@ -130,7 +131,7 @@ pub extern "C" fn jilbaroof_next_reading(points: &[u8], delta: u32, gamma: u32, 
     ensures { result ≡ jump_answer (question_refusal delta gamma points.now)
         (next_jump (fit_of (d_of delta gamma) points.now) (length points.now) a) }
 {
-    questions::next_reading(points, delta, gamma, a)
+    questions::next_reading(points, delta, gamma, a).into()
 }
 
 // The seen-reading jump, after a tried window whose last reading is a.
@@ -139,7 +140,7 @@ pub extern "C" fn jilbaroof_seen_reading(points: &[u8], delta: u32, gamma: u32, 
     ensures { result ≡ jump_answer (question_refusal delta gamma points.now)
         (seen_jump (fit_of (d_of delta gamma) points.now) (length points.now) a) }
 {
-    questions::seen_reading(points, delta, gamma, a)
+    questions::seen_reading(points, delta, gamma, a).into()
 }
 
 // The after-check jump.
@@ -147,7 +148,7 @@ pub extern "C" fn jilbaroof_seen_reading(points: &[u8], delta: u32, gamma: u32, 
 pub extern "C" fn jilbaroof_after_check(points: &[u8], delta: u32, gamma: u32) -> Jump
     ensures { result ≡ jump_answer (question_refusal delta gamma points.now) (after_jump (d_of delta gamma) points.now) }
 {
-    questions::after_check(points, delta, gamma)
+    questions::after_check(points, delta, gamma).into()
 }
 
 // The full jump.
@@ -155,7 +156,7 @@ pub extern "C" fn jilbaroof_after_check(points: &[u8], delta: u32, gamma: u32) -
 pub extern "C" fn jilbaroof_full(points: &[u8], delta: u32, gamma: u32) -> Jump
     ensures { result ≡ jump_answer (question_refusal delta gamma points.now) (full_jump (d_of delta gamma) points.now) }
 {
-    questions::full(points, delta, gamma)
+    questions::full(points, delta, gamma).into()
 }
 
 // The mismatch jump at point number p, from 1 to m.
@@ -163,7 +164,7 @@ pub extern "C" fn jilbaroof_full(points: &[u8], delta: u32, gamma: u32) -> Jump
 pub extern "C" fn jilbaroof_mismatch(points: &[u8], delta: u32, gamma: u32, p: usize) -> Jump
     ensures { result ≡ jump_answer (mismatch_refusal delta gamma points.now p) (mismatch_jump (d_of delta gamma) points.now (p - 1)) }
 {
-    questions::mismatch(points, delta, gamma, p)
+    questions::mismatch(points, delta, gamma, p).into()
 }
 
 // What the check of the window at s answers, in numbers.
@@ -179,5 +180,5 @@ pub extern "C" fn jilbaroof_check(
         (verdict_of delta gamma points.now recording.now s) }
 {
     let answer = questions::check(points, delta, gamma, recording, s);
-    questions::told(answer)
+    answer.into()
 }

@@ -1,23 +1,32 @@
 -- "Add a question that returns the first place, or none, and stops there" (document 02, #101). Assumes nothing.
-use Rattle.std.specs.Prelude.{ℕ, zero, suc, min, Bool, cond, List, [], ◌∷◌, length, get_or}
+use Rattle.std.specs.Prelude.{ℕ, zero, suc, min, Bool, cond, List, [], ◌∷◌, length, get_or, Option, None, Some, Result, Ok, Err}
 use Rattle.fit.specs.Answer.{Sought, all}
-use Rattle.first.specs.declared.Spot.{Spot}
-use Rattle.first.specs.declared.Spot.TheVariants.{Nowhere, At}
+use Rattle.fit.specs.Refused.{refusal_of}
+use Rattle.fit.specs.declared.refusal.Refusal.{Refusal}
 use Rattle.first.specs.declared.First.{First}
 use Rattle.first.specs.declared.Flat.{Flat}
 
--- each case of the answer by its number and its value: 0 where there is no place; 1, and the place
-unfoldable pub number_of : Spot → ℕ
-number_of Nowhere = 0
-number_of (At s) = 1
+-- each case of a place by its number and its value: 0 where there is none; 1, and the place
+unfoldable pub number_of : Option ℕ → ℕ
+number_of None = 0
+number_of (Some s) = 1
 
-unfoldable pub value_of : Spot → ℕ
-value_of Nowhere = 0
-value_of (At s) = s
+unfoldable pub value_of : Option ℕ → ℕ
+value_of None = 0
+value_of (Some s) = s
+
+-- the place that an answer tells, and the windows tried: none and 0 where it is a refusal
+abbrev pub place_of : Result First Refusal → Option ℕ
+place_of (Ok f) = f.place
+place_of (Err e) = None
+
+abbrev pub tried_of : Result First Refusal → ℕ
+tried_of (Ok f) = f.tried
+tried_of (Err e) = 0
 
 -- an answer in these numbers
-abbrev pub told_of : First → Flat
-told_of r = record { refusal = r.refusal; found = number_of r.spot; place = value_of r.spot; tried = r.tried }
+abbrev pub told_of : Result First Refusal → Flat
+told_of r = record { refusal = refusal_of r; found = number_of (place_of r); place = value_of (place_of r); tried = tried_of r }
 
 -- the windows of a walk "up to and including that place, or of the whole walk"
 unfoldable pub up_to_place : (ℕ → Bool) → List ℕ → List ℕ

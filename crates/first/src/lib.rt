@@ -8,24 +8,20 @@ ghost use Rattle.fit.specs.Answer.{sought_by, sought_of};
 ghost use Rattle.last.specs.Walk.{last_walk_of, walk_in, Walkable};
 ghost use Rattle.first.specs.First.{told_of, first_answer};
 
-// Where the first place is.
-#[derive(Clone, Copy)]
-pub enum Spot {
-    Nowhere,
-    At(usize),
-}
+use fit::Refusal;
+use last::Prepared;
 
-// The number of the refusal, nowhere and 0; or 0, where the first place is, and the count of windows tried.
-#[derive(Clone, Copy)]
+// Where the first place is, if there is one, and the count of windows tried.
+#[derive(Clone, Copy, Debug, PartialEq, Eq)]
 pub struct First {
-    pub refusal: u32,
-    pub spot: Spot,
+    pub place: Option<usize>,
     pub tried: usize,
 }
 
-// The same in numbers alone: `found` is 1 where a place is told; else, and where the call is refused, it and `place` are 0.
+// The answer in numbers alone, for C, which has no enum: `found` is 1 where a place is told; else, and where the call is refused, it and `place`
+// are 0.
 #[repr(C)]
-#[derive(Clone, Copy)]
+#[derive(Clone, Copy, Debug, Default, PartialEq, Eq)]
 pub struct Flat {
     pub refusal: u32,
     pub found: u32,
@@ -33,82 +29,64 @@ pub struct Flat {
     pub tried: usize,
 }
 
+impl From<Result<First, Refusal>> for Flat {
+    ghost from_gives = { λ answer r. r ≡ told_of answer };
+
+    #[tactic(auto, unfolding(crate::specs::First::number_of, crate::specs::First::value_of))]
+    fn from(answer: Result<First, Refusal>) -> Flat {
+        match answer {
+            Ok(first) => match first.place {
+                Some(place) => Flat {
+                    refusal: 0,
+                    found: 1,
+                    place,
+                    tried: first.tried,
+                },
+                None => Flat {
+                    tried: first.tried,
+                    ..Flat::default()
+                },
+            },
+            Err(refusal) => Flat {
+                refusal: refusal.number(),
+                ..Flat::default()
+            },
+        }
+    }
+}
+
 // The first place of the profile in the recording.
-pub fn search(points: &[u8], delta: u32, gamma: u32, recording: &[u8]) -> First
+pub fn search(points: &[u8], delta: u32, gamma: u32, recording: &[u8]) -> Result<First, Refusal>
     ensures { told_of result ≡ first_answer (search_refusal delta gamma points.now recording.now)
         (sought_of delta gamma points.now recording.now)
         (last_walk_of delta gamma points.now recording.now) }
 {
-    let prepared = last::prepare(points, delta, gamma, recording);
-    if prepared.refusal != 0 {
-        return First {
-            refusal: prepared.refusal,
-            spot: Spot::Nowhere,
-            tried: 0,
-        };
-    }
-    over_spans(
-        &prepared.spans,
-        points.len(),
-        gamma,
-        &prepared.table,
-        &prepared.seen,
-        recording,
-    )
+    let prepared = last::prepare(points, delta, gamma, recording)?;
+    Ok(over_spans(&prepared, gamma, recording))
 }
 
-// The same for m points compiled to spans, with the tables of their last-reading jumps and of the jumps after a tried window.
-fn over_spans<'a>(
-    spans: &'a [u16; 256],
-    m: usize,
-    gamma: u32,
-    table: &'a [u8; 256],
-    seen: &'a [u8; 256],
-    recording: &[u8],
-) -> First
-    requires { Walkable spans.now table.now seen.now m gamma recording.now }
-    ensures { told_of result ≡ first_answer 0 (sought_by (rule_in spans.now) m gamma recording.now)
-        (walk_in spans.now m recording.now) }
+// The same along the walk that is prepared.
+fn over_spans<'a>(prepared: &'a Prepared, gamma: u32, recording: &[u8]) -> First
+    requires { Walkable prepared.now.spans.rows prepared.now.table prepared.now.seen prepared.now.spans.m gamma recording.now }
+    ensures { told_of (Ok result) ≡ first_answer 0 (sought_by (rule_in prepared.now.spans.rows) prepared.now.spans.m gamma recording.now)
+        (walk_in prepared.now.spans.rows prepared.now.spans.m recording.now) }
 {
+    let spans = &prepared.spans;
+    let before = spans.m - 1;
     let mut tried = 0;
-    let mut q = last::tried_from(table, recording, m - 1);
+    // where the window's last reading stands; a `while`, since each step is a jump of its own length
+    let mut q = prepared.tried_from(recording, before);
     while q < recording.len() {
-        let landing = last::lands_at(seen, recording, q);
-        let s = q - (m - 1);
+        let landing = prepared.lands_at(recording, q);
+        let s = q - before;
         tried += 1;
-        if window::is_place(spans, m, gamma, recording, s) {
+        if window::is_place(spans, gamma, recording, s) {
             return First {
-                refusal: 0,
-                spot: Spot::At(s),
+                place: Some(s),
                 tried,
             };
         }
-        q = last::tried_from(table, recording, landing);
+        q = prepared.tried_from(recording, landing);
     }
-    First {
-        refusal: 0,
-        spot: Spot::Nowhere,
-        tried,
-    }
-}
-
-// An answer in numbers alone, for callers that have no enum.
-pub fn told(answer: First) -> Flat
-    ensures { result ≡ told_of answer }
-{
-    let spot = answer.spot;
-    match spot {
-        Spot::Nowhere => Flat {
-            refusal: answer.refusal,
-            found: 0,
-            place: 0,
-            tried: answer.tried,
-        },
-        Spot::At(s) => Flat {
-            refusal: answer.refusal,
-            found: 1,
-            place: s,
-            tried: answer.tried,
-        },
-    }
+    First { place: None, tried }
 }

@@ -9,6 +9,7 @@ pub mod Chains
 pub mod Verdicts
 pub mod Zeros
 pub mod Refusals
+pub mod Refused
 pub mod Shorts
 pub mod Compiled
 pub mod Steps

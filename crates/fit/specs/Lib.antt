@@ -7,6 +7,7 @@ pub mod Sums
 pub mod Walk
 pub mod Chain
 pub mod Refusal
+pub mod Refused
 pub mod Verdict
 pub mod Spans
 pub mod Answer

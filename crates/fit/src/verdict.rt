@@ -2,7 +2,7 @@
 
 // The window is a place, and this is its sum; or this point, from 1, is the first whose reading is not near; or all are near, and this is
 // the sum that exceeds g.
-#[derive(Clone, Copy)]
+#[derive(Clone, Copy, Debug, PartialEq, Eq)]
 pub enum Verdict {
     Fits(u32),
     Far(usize),

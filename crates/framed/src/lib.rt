@@ -1,11 +1,11 @@
 // The head of a frame of the trial: the numbers before a case's points and readings, each with its high byte first.
-#![tactic(auto)]
+#![tactic(auto, unfolding(crate::specs::Head::head_of, crate::specs::Head::number_at))]
 
-ghost use Rattle.std.specs.Prelude.{◌≡◌, ◌<◌, ◌≤◌, ◌^◌, get_or};
+ghost use Rattle.std.specs.Prelude.{◌≡◌, ◌≤◌, get_or};
 ghost use Rattle.framed.specs.Head.{number_at, head_of};
 
 // The tolerances, the number of points and of readings, and for how many places and how many sums there is room in the lent lists.
-#[derive(Clone, Copy)]
+#[derive(Clone, Copy, Debug)]
 pub struct Head {
     pub delta: u32,
     pub gamma: u32,
@@ -19,47 +19,39 @@ pub struct Head {
 pub fn head_of(bytes: &[u8]) -> Head
     ensures { result ≡ head_of bytes.now }
 {
-    let delta = four_at(bytes, 0);
-    let gamma = four_at(bytes, 4);
-    let m = two_at(bytes, 8);
-    let n = four_at(bytes, 10);
-    let room = two_at(bytes, 14);
-    let sums = two_at(bytes, 16);
     Head {
-        delta,
-        gamma,
-        m: m as usize,
-        n: n as usize,
-        room: room as usize,
-        sums: sums as usize,
+        delta: four_at(bytes, 0),
+        gamma: four_at(bytes, 4),
+        m: usize::from(two_at(bytes, 8)),
+        // a `usize` has 64 bits, which `From` does not go by
+        n: four_at(bytes, 10) as usize,
+        room: usize::from(two_at(bytes, 14)),
+        sums: usize::from(two_at(bytes, 16)),
     }
 }
 
+// Not one function with two_at by the count of bytes: what reads [u8; N] has a loop and two proof files, and these two need none.
 fn four_at(bytes: &[u8], from: usize) -> u32
     requires { from ≤ 12 }
     ensures { result ≡ number_at bytes.now from 4 }
 {
-    two_at(bytes, from) * 65536 + two_at(bytes, from + 2)
+    u32::from_be_bytes([
+        byte_at(bytes, from),
+        byte_at(bytes, from + 1),
+        byte_at(bytes, from + 2),
+        byte_at(bytes, from + 3),
+    ])
 }
 
-fn two_at(bytes: &[u8], from: usize) -> u32
+fn two_at(bytes: &[u8], from: usize) -> u16
     requires { from ≤ 16 }
-    ensures { (result ≡ number_at bytes.now from 2) × (result < 2 ^ 16) }
+    ensures { result ≡ number_at bytes.now from 2 }
 {
-    byte_at(bytes, from) * 256 + byte_at(bytes, from + 1)
+    u16::from_be_bytes([byte_at(bytes, from), byte_at(bytes, from + 1)])
 }
 
-fn byte_at(bytes: &[u8], i: usize) -> u32
-    ensures { (result ≡ get_or bytes.now i 0) × (result < 2 ^ 8) }
+fn byte_at(bytes: &[u8], i: usize) -> u8
+    ensures { result ≡ get_or bytes.now i 0 }
 {
-    if i < bytes.len() {
-        return wide(bytes[i]);
-    }
-    0
-}
-
-fn wide(a: u8) -> u32
-    ensures { (result ≡ a) × (result < 2 ^ 8) }
-{
-    a as u32
+    bytes.get(i).copied().unwrap_or(0)
 }

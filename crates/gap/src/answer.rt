@@ -1,8 +1,8 @@
 // The chain that is shown for an end.
 
-// The number of the refusal and zeros; or 0, and the recording position of each point, with zeros beyond the last point.
+// For C, and so flat: the number of the refusal and zeros; or 0, and the recording position of each point, with zeros beyond the last point.
 #[repr(C)]
-#[derive(Clone, Copy)]
+#[derive(Clone, Copy, Debug, PartialEq, Eq)]
 pub struct Chain {
     pub refusal: u32,
     pub positions: [u32; 64],

@@ -1,6 +1,5 @@
 -- What the program reads: "one byte delta, two bytes gamma (high byte first), one byte m, m points, then the recording to the end". Assumes nothing.
 use Rattle.std.specs.Prelude.{ℕ, zero, suc, ◌+◌, ◌*◌, ◌≤◌, ◌<◌, cond, ◌||◌, List, ◌⊎◌, length, get_or, take, drop, ltb}
-use Rattle.input.specs.declared.Front.{Front}
 
 abbrev pub delta_in : List ℕ → ℕ
 delta_in input = get_or input 0 0
@@ -25,6 +24,13 @@ BadInput input = (length input < 4) ⊎ ((length input < 4 + m_in input) ⊎ (ma
 pub record GoodInput (input : List ℕ) : Type 0 where
   pub long : 4 + m_in input ≤ length input
   pub short : length input ≤ max_input
+
+-- the numbers in front of the points and 0, or the number of the refusal and zeros
+pub record Front : Type 0 where
+  pub refusal : ℕ
+  pub delta : ℕ
+  pub gamma : ℕ
+  pub m : ℕ
 
 -- by the refusal's number: the numbers in front, or the refusal's and zeros
 unfoldable pub front_by : ℕ → List ℕ → Front

@@ -1,9 +1,11 @@
 -- Why is it no place? "a public question exposes it for one s" (document 02, #106): the window check's answer. Assumes nothing.
-use Rattle.std.specs.Prelude.{ℕ, zero, suc, ◌+◌, List, [], ◌∷◌, ◌++◌, length, ltb}
+use Rattle.std.specs.Prelude.{Result, Ok, Err, ℕ, zero, suc, ◌+◌, List, [], ◌∷◌, ◌++◌, length, ltb}
 use Rattle.fit.specs.Chain.{Reason, first_reason}
 use Rattle.fit.specs.Refusal.{search_reasons}
 use Rattle.fit.specs.Verdict.{Told, told_of}
-use Rattle.judging.specs.declared.Judged.{Judged}
+use Rattle.fit.specs.Refused.{number_of}
+use Rattle.fit.specs.declared.refusal.Refusal.{Refusal}
+use Rattle.fit.specs.declared.verdict.Verdict.{Verdict}
 use Rattle.judging.specs.declared.FlatVerdict.{FlatVerdict}
 
 -- "6 is also given for an s that has no window": "A window at s is y[s]..y[s+m-1], with s+m at most n"
@@ -21,14 +23,10 @@ check_reasons delta gamma x y s = search_reasons delta gamma x y ++ (no_window (
 unfoldable pub check_refusal : ℕ → ℕ → List ℕ → List ℕ → ℕ → ℕ
 check_refusal delta gamma x y s = first_reason (check_reasons delta gamma x y s)
 
--- an answer in numbers: the verdict by the number and the values of its case
-abbrev pub told_all : Judged → FlatVerdict
-told_all r = record {
-  refusal = r.refusal;
-  kind = (told_of r.verdict).kind;
-  point = (told_of r.verdict).point;
-  sum = (told_of r.verdict).sum;
-}
+-- an answer in numbers: the verdict by the number and the values of its case; refused, the number of the refusal, and zeros
+abbrev pub told_all : Result Verdict Refusal → FlatVerdict
+told_all (Ok v) = record { refusal = 0; kind = (told_of v).kind; point = (told_of v).point; sum = (told_of v).sum }
+told_all (Err e) = record { refusal = number_of e; kind = 0; point = 0; sum = 0 }
 
 -- the whole answer, by the refusal's number: the verdict; or the number, and zeros
 unfoldable pub check_answer : ℕ → Told → FlatVerdict

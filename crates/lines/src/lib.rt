@@ -2,64 +2,56 @@
 #![tactic(auto)]
 
 ghost use Rattle.std.specs.Prelude.{◌≡◌};
-ghost use Rattle.page.specs.Put.{Put};
+ghost use Rattle.fit.specs.Answer.{search_of};
+ghost use Rattle.page.specs.Puts.{Puts};
 ghost use Rattle.lines.specs.Lines.{ended, counts_line, refused_line, line_of, lines_of};
 
-use fit::Search;
+use fit::{Found, Refusal};
+use page::Page;
 
 // A number, and the line ends.
-fn put_ended(page: &mut [u8], at: usize, x: u64) -> usize
-    ensures { Put page.old at (ended x) result page.new }
+fn put_ended(page: &mut Page, x: u64)
+    ensures { Puts page.old (ended x) page.new }
 {
-    let end = page::put_number(page, at, x);
-    page::put_text(page, end, b"\n")
+    page.put_number(x);
+    page.put_text(b"\n");
 }
 
-// `NAME refused NUMBER`.
-pub fn put_refused(page: &mut [u8], at: usize, name: &[u8], number: u32) -> usize
-    ensures { Put page.old at (refused_line name.now number) result page.new }
+// `NAME refused NUMBER`. The number and no `Refusal`, which would ask more of callers than the contract did.
+pub fn put_refused(page: &mut Page, name: &[u8], number: u32)
+    ensures { Puts page.old (refused_line name.now number) page.new }
 {
-    let named = page::put_text(page, at, name);
-    let told = page::put_text(page, named, b" refused ");
-    put_ended(page, told, number as u64)
+    page.put_text(name);
+    page.put_text(b" refused ");
+    put_ended(page, u64::from(number));
 }
 
-// `NAME TOTAL TRIED`.
-fn put_counts(page: &mut [u8], at: usize, name: &[u8], total: usize, tried: usize) -> usize
-    ensures { Put page.old at (counts_line name.now total tried) result page.new }
+// `NAME TOTAL TRIED`. `as`, since there is no `From` of a `usize`, which has 64 bits.
+fn put_counts(page: &mut Page, name: &[u8], found: Found)
+    ensures { Puts page.old (counts_line name.now found.total found.tried) page.new }
 {
-    let named = page::put_text(page, at, name);
-    let gap = page::put_text(page, named, b" ");
-    let counted = page::put_number(page, gap, total as u64);
-    let gap = page::put_text(page, counted, b" ");
-    put_ended(page, gap, tried as u64)
+    page.put_text(name);
+    page.put_text(b" ");
+    page.put_number(found.total as u64);
+    page.put_text(b" ");
+    put_ended(page, found.tried as u64);
 }
 
 // The line of a searcher: the one or the other.
-pub fn put_line(page: &mut [u8], at: usize, name: &[u8], found: Search) -> usize
-    ensures { Put page.old at (line_of name.now found) result page.new }
+pub fn put_line(page: &mut Page, name: &[u8], answer: Result<Found, Refusal>)
+    ensures { Puts page.old (line_of name.now (search_of answer)) page.new }
 {
-    if found.refusal != 0 {
-        return put_refused(page, at, name, found.refusal);
+    match answer {
+        Ok(found) => put_counts(page, name, found),
+        Err(refusal) => put_refused(page, name, refusal.number()),
     }
-    put_counts(page, at, name, found.total, found.tried)
-}
-
-fn wide(s: u32) -> u64
-    ensures { result ≡ s }
-{
-    s as u64
 }
 
 // The places, one to a line.
-pub fn put_places(page: &mut [u8], at: usize, places: &[u32]) -> usize
-    ensures { Put page.old at (lines_of places.now) result page.new }
+pub fn put_places(page: &mut Page, places: &[u32])
+    ensures { Puts page.old (lines_of places.now) page.new }
 {
-    let mut end = at;
-    let mut i = 0;
-    while i < places.len() {
-        end = put_ended(page, end, wide(places[i]));
-        i += 1;
+    for place in places {
+        put_ended(page, u64::from(*place));
     }
-    end
 }

@@ -3,10 +3,12 @@
 
 ghost use Rattle.std.specs.Prelude.{length};
 ghost use Rattle.fit.specs.Place.{d_of};
-ghost use Rattle.fit.specs.Answer.{lent, Answers};
+ghost use Rattle.fit.specs.Answer.{lent, search_of, Answers};
 ghost use Rattle.leaping.specs.Walk.{maximal_walk};
 
-use fit::Search;
+use fit::{Found, Refusal};
+use noting::Lists;
+use tables::Points;
 
 // Lists the places of the profile in the recording and their sums, and counts the places and the windows tried.
 pub fn search(
@@ -16,32 +18,20 @@ pub fn search(
     recording: &[u8],
     list: &mut [u32],
     sums: &mut [u16],
-) -> Search
+) -> Result<Found, Refusal>
     ensures { Answers delta gamma points.now recording.now
         (length (maximal_walk (d_of delta gamma) points.now recording.now))
-        (lent list.old sums.old) result (lent list.new sums.new) }
+        (lent list.old sums.old) (search_of result) (lent list.new sums.new) }
 {
-    let checked = limits::checked_search(points, delta, gamma, recording);
-    let found = fit::begin(checked.refusal);
-    if found.refusal != 0 {
-        return found;
-    }
-    let tolerance = checked.tolerance;
-    let d = tolerance.d();
-    let spans = ordinary::spans_of(checked.profile, d);
-    let next = tables::next_table(&spans, points.len());
-    let compared = comparing::compared_of(points, d);
-    leaping::walk(
-        points,
-        d,
-        gamma,
-        &spans,
-        &next,
-        &compared.order,
-        &compared.jumps,
-        recording,
-        list,
-        sums,
-        found,
-    )
+    let checked = limits::checked_search(points, delta, gamma, recording)?;
+    let d = checked.tolerance.d();
+    let spans = ordinary::spans_of(&checked.profile, d);
+    let next = tables::next_table(&spans);
+    let points = Points { points, d };
+    let compared = comparing::compared_of(&points);
+    let mut lists = Lists { list, sums };
+    let found = leaping::walk(
+        &points, gamma, &spans, &next, &compared, recording, &mut lists,
+    );
+    Ok(found)
 }

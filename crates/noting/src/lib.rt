@@ -1,29 +1,28 @@
-// What is noted of windows: each is counted, and a place is listed with its sum. `window` passes `note` and `note_none` on.
+// What is noted of windows: each is counted, and a place is listed with its sum.
 #![tactic(auto)]
 
 ghost use Rattle.std.specs.Prelude.{◌≡◌, ◌+◌, ◌<◌, ◌^◌, set};
+ghost use Rattle.std.specs.Option.{is_some, unwrap_or};
 ghost use Rattle.fit.specs.Sums.{lowered};
-ghost use Rattle.fit.specs.Answer.{lent, Noted};
+ghost use Rattle.fit.specs.Answer.{Noted};
+ghost use Rattle.noting.specs.Lists.{lent_in, Same};
 ghost use Rattle.fit.specs.Trying.{missed, counted};
 
-use fit::Search;
+use fit::Found;
 
-// Writes the place s as entry `at` of the list, if it goes that far.
-fn put(list: &mut [u32], at: usize, s: usize)
-    requires { s < 2 ^ 32 }
-    ensures { list.new ≡ set list.old at s }
-{
-    if at < list.len() {
-        list[at] = s as u32;
-    }
+// The two lists that a search is lent: for the places, and for their sums.
+#[derive(Drop)]
+pub struct Lists<'a> {
+    pub list: &'a mut [u32],
+    pub sums: &'a mut [u16],
 }
 
-// Writes the sum of a place as entry `at` of the sums, if they go that far.
-fn put_sum(sums: &mut [u16], at: usize, sum: u16)
-    ensures { sums.new ≡ set sums.old at sum }
+// Writes an entry at `at`, if the list goes that far.
+fn put<T: Copy>(list: &mut [T], at: usize, entry: T)
+    ensures { list.new ≡ set list.old at entry }
 {
-    if at < sums.len() {
-        sums[at] = sum;
+    if at < list.len() {
+        list[at] = entry;
     }
 }
 
@@ -31,64 +30,44 @@ fn put_sum(sums: &mut [u16], at: usize, sum: u16)
 fn lower(count: usize, least: u32, sum: u16) -> u32
     ensures { result ≡ lowered count least sum }
 {
-    let more = sum as u32;
-    if count == 0 {
-        return more;
-    }
-    if more < least { more } else { least }
+    let more = u32::from(sum);
+    if count == 0 { more } else { more.min(least) }
 }
 
-// One window more was tried, at s: where it is a place, it is counted, and listed with its sum. Of a window that is none the sum is not used.
-pub fn note(
-    list: &mut [u32],
-    sums: &mut [u16],
-    s: usize,
-    hit: bool,
-    sum: u16,
-    before: Search,
-) -> Search
+// One window more was tried, at s: a place with this sum, which is counted and listed with it, or none.
+pub fn note(lists: &mut Lists, s: usize, sum: Option<u16>, before: Found) -> Found
     requires { (s < 2 ^ 32) × (before.total < 2 ^ 32) × (before.tried < 2 ^ 32) }
-    ensures { Noted hit sum s before (lent list.old sums.old) result (lent list.new sums.new) }
+    ensures noted { Noted (is_some sum) (unwrap_or sum 0) s before (lent_in lists.old) result (lent_in lists.new) }
+    ensures same { Same lists.old lists.new }
 {
-    if hit {
-        put(list, before.total, s);
-        put_sum(sums, before.total, sum);
-        return Search {
-            refusal: before.refusal,
-            total: before.total + 1,
-            tried: before.tried + 1,
-            least: lower(before.total, before.least, sum),
-        };
-    }
-    Search {
-        refusal: before.refusal,
-        total: before.total,
-        tried: before.tried + 1,
-        least: before.least,
+    match sum {
+        Some(sum) => {
+            put(lists.list, before.total, s as u32);
+            put(lists.sums, before.total, sum);
+            Found {
+                total: before.total + 1,
+                tried: before.tried + 1,
+                least: lower(before.total, before.least, sum),
+            }
+        }
+        None => note_none(1, before),
     }
 }
 
 // k windows more were tried, and none of them is a place.
-pub fn note_none(k: usize, before: Search) -> Search
+pub fn note_none(k: usize, before: Found) -> Found
     requires { (k < 2 ^ 32) × (before.tried < 2 ^ 32) }
     ensures { result ≡ missed k before }
 {
-    Search {
-        refusal: before.refusal,
-        total: before.total,
+    Found {
         tried: before.tried + k,
-        least: before.least,
+        ..before
     }
 }
 
 // So many windows were tried in all: a filter kept some of them, and only these were noted.
-pub fn count_all(tried: usize, found: Search) -> Search
+pub fn count_all(tried: usize, found: Found) -> Found
     ensures { result ≡ counted found tried }
 {
-    Search {
-        refusal: found.refusal,
-        total: found.total,
-        tried: tried,
-        least: found.least,
-    }
+    Found { tried, ..found }
 }

@@ -3,33 +3,29 @@
 #![tactic(auto)]
 
 ghost use Rattle.std.specs.Prelude.{◌≡◌, ◌≤◌};
-ghost use Rattle.fit.specs.Refusal.{max_points, max_delta};
+ghost use Rattle.fit.specs.Refusal.{max_delta};
 ghost use Rattle.limits.specs.Made.{points_of};
 ghost use Rattle.fit.specs.Spans.{spans_of};
 
-fn wide(a: u8) -> u16
-    ensures { (result ≡ a) × (result ≤ 255) }
-{
-    a as u16
-}
+use limits::Profile;
+use spans::Spans;
 
 // The four numbers of each point, in four rows, each with zeros beyond the points.
-pub fn spans_of(profile: limits::Profile, d: u32) -> [u16; 4 * limits::Profile::MAX_POINTS]
-    requires { (profile.m ≤ max_points) × (d ≤ max_delta) }
-    ensures { result ≡ spans_of d (points_of profile) }
+pub fn spans_of(profile: &Profile, d: u32) -> Spans
+    requires { d ≤ max_delta }
+    ensures rows { result.rows ≡ spans_of d (points_of profile.now) }
+    ensures points { result.m ≡ profile.now.m }
 {
     let points = profile.points();
     let m = profile.m();
     let reach = d as u16;
-    let mut spans = [0u16; 4 * limits::Profile::MAX_POINTS];
-    let mut i = 0;
-    while i < m {
-        let p = wide(points[i]);
-        spans[i] = wide(reading::least_near(points[i], d));
-        spans[64 + i] = p + reach;
-        spans[128 + i] = p;
-        spans[192 + i] = p;
-        i += 1;
+    let mut rows = [0; 4 * Profile::MAX_POINTS];
+    for i in 0..m {
+        let p = u16::from(points[i]);
+        rows[i] = u16::from(reading::least_near(points[i], d));
+        rows[64 + i] = p + reach;
+        rows[128 + i] = p;
+        rows[192 + i] = p;
     }
-    spans
+    Spans { rows, m }
 }

@@ -4,10 +4,13 @@
 
 ghost use Rattle.std.specs.Prelude.{length};
 ghost use Rattle.fit.specs.Place.{windows};
-ghost use Rattle.fit.specs.Answer.{lent, Answers};
+ghost use Rattle.fit.specs.Answer.{lent, search_of, Answers};
 
-// The bits of a word.
-const WORD_BITS: u32 = 64;
+use adding::Additions;
+use counters::Masks;
+use fit::{Found, Refusal};
+use noting::Lists;
+use scan::Scan;
 
 // Room for the most words that the counters take, for each reading.
 const TABLE_WORDS: usize = 256 * words::MAX_WORDS;
@@ -20,26 +23,36 @@ pub fn search(
     recording: &[u8],
     list: &mut [u32],
     sums: &mut [u16],
-) -> fit::Search
+) -> Result<Found, Refusal>
     ensures { Answers delta gamma points.now recording.now
         (windows (length points.now) (length recording.now))
-        (lent list.old sums.old) result (lent list.new sums.new) }
+        (lent list.old sums.old) (search_of result) (lent list.new sums.new) }
 {
     // first of all: the compiler would lose a register if it took this much room later (docs/DECISIONS.md, What is compiled)
     let mut table = [0u64; TABLE_WORDS];
-    let checked = limits::checked_search(points, delta, gamma, recording);
-    let begun = fit::begin(checked.refusal);
-    if begun.refusal != 0 {
-        return begun;
-    }
+    let checked = limits::checked_search(points, delta, gamma, recording)?;
     let m = points.len();
-    let tolerance = checked.tolerance;
-    let d = tolerance.d();
-    let g = tolerance.g(m as u32);
+    let d = checked.tolerance.d();
+    // m is at most 64, and so are the counters of a word
+    let g = checked.tolerance.g(m as u32);
     let b = counters::low_bits(g);
-    let k = counters::lay_out(b, WORD_BITS / (b + 1), g as u64);
-    let per = k.per as usize;
-    let used = (m + (per - 1)) / per;
-    adding::additions(points, per, used, b + 1, d, g as u64, k.enter, &mut table);
-    words::scan_words(k, m, used, &table, recording, list, sums, begun)
+    let masks = Masks::lay_out(b, u64::BITS / (b + 1), u64::from(g));
+    let per = masks.per as usize;
+    let used = m.div_ceil(per);
+    let additions = Additions {
+        per,
+        l: b + 1,
+        d,
+        g: masks.g,
+        enter: masks.enter,
+    };
+    additions.tabulate(points, used, &mut table);
+    let scan = Scan {
+        masks,
+        m,
+        used,
+        table: &table,
+        recording,
+    };
+    Ok(words::scan_words(&scan, &mut Lists { list, sums }))
 }

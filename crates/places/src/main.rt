@@ -11,6 +11,7 @@ ghost use Rattle.report.specs.Report.{report_of};
 ghost use Rattle.places.specs.Failures.{IsReading};
 
 use failure::Failure;
+use page::Page;
 use std::io::{Read, Write};
 use std::process::ExitCode;
 
@@ -31,14 +32,9 @@ fn answer<R: Read, W: Write>(reader: &mut R, writer: &mut W) -> Result<(), Failu
     ensures unread { IfErr result (λ failure. IsReading failure → Keeps (W.contents writer.old) (W.contents writer.new)) }
 {
     let mut input = [0u8; input::MAX_INPUT + 1];
-    let n = match calls::read_all(reader, &mut input) {
-        Ok(n) => n,
-        Err(cause) => return Err(Failure::Reading(cause)),
-    };
-    let mut page = [0u8; report::PAGE];
-    let end = report::put_report(&mut page, &input[..n]);
-    match writer.write_all(&page[..end]) {
-        Ok(()) => Ok(()),
-        Err(cause) => Err(Failure::Writing(cause)),
-    }
+    let n = calls::read_all(reader, &mut input).map_err(Failure::Reading)?;
+    let mut bytes = [0u8; report::PAGE];
+    let mut page = Page::new(&mut bytes);
+    report::put_report(&mut page, &input[..n]);
+    writer.write_all(page.written()).map_err(Failure::Writing)
 }

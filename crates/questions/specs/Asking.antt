@@ -1,19 +1,27 @@
 -- What a question answers. Assumes nothing.
-use Rattle.std.specs.Prelude.{ℕ, zero, suc, ◌<◌, ◌||◌, List, [], ◌∷◌, ◌++◌, ◌⊎◌, ◌≡◌, length, replicate, eqb, ltb}
+use Rattle.std.specs.Prelude.{ℕ, zero, suc, ◌<◌, ◌||◌, List, [], ◌∷◌, ◌++◌, ◌⊎◌, ◌≡◌, length, eqb, ltb, Result, Ok, Err}
 use Rattle.fit.specs.Chain.{Reason, first_reason}
 use Rattle.fit.specs.Refusal.{question_reasons}
+use Rattle.fit.specs.Refused.{number_of}
+use Rattle.fit.specs.Spans.{spans_of}
+use Rattle.fit.specs.declared.refusal.Refusal.{Refusal}
+use Rattle.spans.specs.declared.Spans.{Spans}
 use Rattle.questions.specs.declared.Jump.{Jump}
-use Rattle.questions.specs.declared.Compiled.{Compiled}
 
 -- by the refusal's number: the jump; or the number "with any jump 0"
 unfoldable pub jump_answer : ℕ → ℕ → Jump
 jump_answer zero k = record { refusal = 0; jump = k }
 jump_answer (suc num) k = record { refusal = suc num; jump = 0 }
 
--- what the questions about one reading go by, in the same way: the profile's spans; or the number, and zeros
-unfoldable pub compiled_answer : ℕ → List ℕ → Compiled
-compiled_answer zero spans = record { refusal = 0; spans = spans }
-compiled_answer (suc num) spans = record { refusal = suc num; spans = replicate 256 0 }
+-- an answer in numbers
+abbrev pub jump_of : Result ℕ Refusal → Jump
+jump_of (Ok k) = record { refusal = 0; jump = k }
+jump_of (Err e) = record { refusal = number_of e; jump = 0 }
+
+-- what the questions about one reading go by: the spans of the points x, which are near by d
+pub record Compiles (d : ℕ) (x : List ℕ) (spans : Spans) : Type 0 where
+  pub rows : spans.rows ≡ spans_of d x
+  pub points : spans.m ≡ length x
 
 -- No. 6: "point number is 0 or above m"
 abbrev pub no_point : ℕ → ℕ → Reason

@@ -5,7 +5,7 @@ ghost use Rattle.std.specs.Prelude.{◌≡◌, ◌+◌, ◌-◌, ◌%◌, ◌≤
 ghost use Rattle.fit.specs.Reading.{lowest, highest, diff, alike, near};
 
 // The least reading that tells a pressure, and the greatest: the sensor writes 0 where it has lost contact.
-const LOWEST: u32 = 1;
+const LOWEST: u8 = 1;
 
 pub const HIGHEST: u8 = 255;
 
@@ -13,11 +13,7 @@ pub const HIGHEST: u8 = 255;
 pub fn differ(a: u8, b: u8) -> u32
     ensures { (result ≡ diff a b) × (result ≤ highest) }
 {
-    if a < b {
-        (b - a) as u32
-    } else {
-        (a - b) as u32
-    }
+    u32::from(a.abs_diff(b))
 }
 
 // Whether points p and q differ by at most k.
@@ -31,27 +27,19 @@ pub fn are_alike(k: u32, p: u8, q: u8) -> bool
 pub fn is_near(d: u32, p: u8, a: u8) -> bool
     ensures { result ≡ near d p a }
 {
-    if (a as u32) < LOWEST {
+    if a < LOWEST {
         return false;
     }
     // one comparison for both sides: below p - d, a + d - p wraps, and is far above 2d
-    let reach = d as u64;
-    std::num::wrapping_sub_u64(a as u64 + reach, p as u64) <= 2 * reach
+    let reach = u64::from(d);
+    (u64::from(a) + reach).wrapping_sub(u64::from(p)) <= 2 * reach
 }
 
 // The least reading that is near point p.
 pub fn least_near(p: u8, d: u32) -> u8
     ensures { result ≡ max lowest (p - d) }
 {
-    let v = p as u32;
-    if v < d {
-        return LOWEST as u8;
-    }
-    let low = v - d;
-    if low < LOWEST {
-        return LOWEST as u8;
-    }
-    low as u8
+    LOWEST.max(u32::from(p).saturating_sub(d) as u8)
 }
 
 // The greatest reading that is near point p.
@@ -59,8 +47,8 @@ pub fn most_near(p: u8, d: u32) -> u8
     ensures { result ≡ min highest (p + d) }
 {
     // in 64 bits, where the sum cannot be too large a number
-    let v = p as u64 + d as u64;
-    if v < HIGHEST as u64 { v as u8 } else { HIGHEST }
+    let most = u64::from(p) + u64::from(d);
+    most.min(u64::from(HIGHEST)) as u8
 }
 
 // Whether a is the least of some readings, or one of so many more that follow it: one comparison, since what lies below the least wraps. Behind 255
@@ -68,12 +56,12 @@ pub fn most_near(p: u8, d: u32) -> u8
 pub fn is_among(least: u8, more: u8, a: u8) -> bool
     ensures { (result ≡ nat_le ((a + 256 - least) % 256) more) × (a ≤ highest) }
 {
-    std::num::wrapping_sub_u8(a, least) <= more
+    a.wrapping_sub(least) <= more
 }
 
-// A byte as an index, or as any number that is counted with.
+// A byte as an index, or as any number that is counted with. It stays beside `usize::from` for what it promises and for its wrong answers.
 pub fn index(a: u8) -> usize
     ensures { (result ≡ a) × (result ≤ highest) }
 {
-    a as usize
+    usize::from(a)
 }

@@ -8,6 +8,7 @@ use Rattle.last.specs.Walk.{last_walk_of}
 use Rattle.skip.specs.Walk.{skip_walk}
 use Rattle.leaping.specs.Walk.{maximal_walk}
 use Rattle.input.specs.Inputs.{delta_in, gamma_in, of_input, points_in, recording_in}
+use Rattle.input.specs.declared.Input.{Input}
 use Rattle.lines.specs.Lines.{refused_line, line_of, lines_of}
 
 -- `plain`, `packed`, `last`, `skip`, `maximal` and `input`
@@ -62,6 +63,13 @@ module _ (delta gamma : ℕ) (x y : List ℕ) where
   -- "It writes a line per searcher .. Then come all places found by plain, one to a line"
   abbrev pub report_on : List ℕ
   report_on = plain_line ++ other_lines ++ lines_of (found_by (search_refusal delta gamma x y) (places delta gamma x y))
+
+-- the same of an input that was taken apart
+abbrev pub others_for : Input → List ℕ
+others_for i = other_lines i.delta i.gamma i.points.now i.recording.now
+
+abbrev pub report_for : Input → List ℕ
+report_for i = report_on i.delta i.gamma i.points.now i.recording.now
 
 -- "Refusal 5 gives only `input refused 5`"
 unfoldable pub report_by : ℕ → List ℕ → List ℕ

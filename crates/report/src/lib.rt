@@ -3,33 +3,32 @@
 
 ghost use Rattle.std.specs.Prelude.{◌≡◌, ◌≤◌, length};
 ghost use Rattle.input.specs.Inputs.{max_input};
-ghost use Rattle.page.specs.Put.{Put};
-ghost use Rattle.report.specs.Report.{other_lines, report_on, report_of, page_length};
+ghost use Rattle.page.specs.Puts.{Puts};
+ghost use Rattle.report.specs.Report.{others_for, report_for, report_of, page_length};
+
+use input::Input;
+use page::Page;
 
 // Room for the whole text, which `report_whole` proves: five lines of at most 23 bytes, and 6 bytes for each of at most 12,000 places.
 pub const PAGE: usize = 73000;
 
-// Puts the report of an input on the page, as far as it fits, and answers where it ends.
-pub fn put_report(page: &mut [u8], input: &[u8]) -> usize
-    ensures put { Put page.old 0 (report_of input.now) result page.new }
+// Puts the report of an input on the page, as far as it fits.
+pub fn put_report(page: &mut Page, input: &[u8])
+    ensures put { Puts page.old (report_of input.now) page.new }
     ensures room { PAGE ≡ page_length }
 {
-    let front = input::front_of(input);
-    if front.refusal != 0 {
-        return lines::put_refused(page, 0, b"input", front.refusal);
+    match Input::parse(input) {
+        Ok(input) => put_searched(page, &input),
+        Err(refusal) => lines::put_refused(page, b"input", refusal.number()),
     }
-    let points = input::points_of(input);
-    let recording = input::recording_of(input);
-    put_searched(page, points, front.delta, front.gamma, recording)
 }
 
-fn put_searched(page: &mut [u8], points: &[u8], delta: u32, gamma: u32, recording: &[u8]) -> usize
-    requires { length recording.now ≤ max_input }
-    ensures { Put page.old 0 (report_on delta gamma points.now recording.now) result
-        page.new }
+fn put_searched(page: &mut Page, input: &Input)
+    requires { length input.now.recording.now ≤ max_input }
+    ensures { Puts page.old (report_for input.now) page.new }
 {
     let mut list = no_places();
-    with_list(page, points, delta, gamma, recording, &mut list)
+    with_list(page, input, &mut list);
 }
 
 // Room for every place. Its contract gives only the length, which is all that lending it needs.
@@ -40,45 +39,40 @@ fn no_places() -> [u32; input::MAX_INPUT]
 }
 
 // A line for each searcher, and then the places that plain found, all of which the list can hold. No line has a sum, so none is kept.
-fn with_list(
-    page: &mut [u8],
-    points: &[u8],
-    delta: u32,
-    gamma: u32,
-    recording: &[u8],
-    list: &mut [u32],
-) -> usize
-    requires { length recording.now ≤ length list.old }
-    ensures { Put page.old 0 (report_on delta gamma points.now recording.now) result
-        page.new }
+fn with_list(page: &mut Page, input: &Input, list: &mut [u32])
+    requires { length input.now.recording.now ≤ length list.old }
+    ensures { Puts page.old (report_for input.now) page.new }
 {
-    let mut no_sums = [0u16; 0];
-    let found = plain::search(points, delta, gamma, recording, list, &mut no_sums);
-    let told = lines::put_line(page, 0, b"plain", found);
-    let end = put_others(page, told, points, delta, gamma, recording);
-    lines::put_places(page, end, &list[..found.total])
+    let Input {
+        delta,
+        gamma,
+        points,
+        recording,
+    } = *input;
+    let found = plain::search(points, delta, gamma, recording, list, &mut []);
+    lines::put_line(page, b"plain", found);
+    put_others(page, input);
+    if let Ok(found) = found {
+        lines::put_places(page, &list[..found.total]);
+    }
 }
 
 // The lines of the other searchers. They are proved to find the places that plain finds, so nothing is lent to them.
-fn put_others(
-    page: &mut [u8],
-    at: usize,
-    points: &[u8],
-    delta: u32,
-    gamma: u32,
-    recording: &[u8],
-) -> usize
-    ensures { Put page.old at (other_lines delta gamma points.now recording.now) result
-        page.new }
+fn put_others(page: &mut Page, input: &Input)
+    ensures { Puts page.old (others_for input.now) page.new }
 {
-    let mut none = [0u32; 0];
-    let mut no_sums = [0u16; 0];
-    let packed = packed::search(points, delta, gamma, recording, &mut none, &mut no_sums);
-    let end = lines::put_line(page, at, b"packed", packed);
-    let last = last::search(points, delta, gamma, recording, &mut none, &mut no_sums);
-    let end = lines::put_line(page, end, b"last", last);
-    let skip = skip::search(points, delta, gamma, recording, &mut none, &mut no_sums);
-    let end = lines::put_line(page, end, b"skip", skip);
-    let maximal = maximal::search(points, delta, gamma, recording, &mut none, &mut no_sums);
-    lines::put_line(page, end, b"maximal", maximal)
+    let Input {
+        delta,
+        gamma,
+        points,
+        recording,
+    } = *input;
+    let packed = packed::search(points, delta, gamma, recording, &mut [], &mut []);
+    lines::put_line(page, b"packed", packed);
+    let last = last::search(points, delta, gamma, recording, &mut [], &mut []);
+    lines::put_line(page, b"last", last);
+    let skip = skip::search(points, delta, gamma, recording, &mut [], &mut []);
+    lines::put_line(page, b"skip", skip);
+    let maximal = maximal::search(points, delta, gamma, recording, &mut [], &mut []);
+    lines::put_line(page, b"maximal", maximal);
 }

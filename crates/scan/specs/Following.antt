@@ -4,8 +4,8 @@ use Rattle.fit.specs.Reading.{highest}
 use Rattle.fit.specs.Rule.{Rule}
 use Rattle.fit.specs.Place.{windows}
 use Rattle.fit.specs.Refusal.{max_gamma, max_readings}
-use Rattle.fit.specs.Answer.{Sought, sought_by, Lent, Answer}
-use Rattle.fit.specs.declared.answer.Search.{Search}
+use Rattle.fit.specs.Answer.{Sought, sought_by, Lent, told, Answer}
+use Rattle.fit.specs.declared.answer.Found.{Found}
 use Rattle.counters.specs.Sums.{moved, grown}
 use Rattle.counters.specs.Words.{Needed, LaidAcross, AgreesAcross, SmallAcross}
 use Rattle.counters.specs.Sound.{Sound}
@@ -57,5 +57,5 @@ abbrev pub sought_in : Masks → ℕ → ℕ → List ℕ → List ℕ → Sough
 sought_in masks m k t y = sought_by (summing (scan_cost masks k t)) m masks.g y
 
 -- the answer of a scan that has just begun: what is told so, and every window tried
-abbrev pub Scans : Masks → ℕ → ℕ → List ℕ → List ℕ → Lent → Search → Lent → Type 0
-Scans masks m k t y entry r final = Answer 0 (sought_in masks m k t y) (windows m (length y)) entry r final
+abbrev pub Scans : Masks → ℕ → ℕ → List ℕ → List ℕ → Lent → Found → Lent → Type 0
+Scans masks m k t y entry r final = Answer 0 (sought_in masks m k t y) (windows m (length y)) entry (told r) final

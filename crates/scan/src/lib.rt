@@ -2,108 +2,108 @@
 // What a counter is stands in counters, and what each reading adds in adding. In how many words the counters stand is the caller's to say.
 #![tactic(auto)]
 
-ghost use Rattle.std.specs.Prelude.{◌≡◌, true, cond, suc, ◌+◌, ◌-◌, ◌*◌, ◌%◌, ◌^◌, ◌≤◌, ◌<◌, length, replicate};
+ghost use Rattle.std.specs.Prelude.{◌≡◌, ◌==◌, suc, ◌+◌, ◌-◌, ◌*◌, ◌%◌, ◌^◌, ◌<◌, bit_and, length, replicate};
+ghost use Rattle.std.specs.Bool.{then_some};
 ghost use Rattle.fit.specs.Place.{windows};
-ghost use Rattle.fit.specs.Answer.{lent, begun};
+ghost use Rattle.noting.specs.Lists.{lent_in, Same};
 ghost use Rattle.counters.specs.Word.{counter};
 ghost use Rattle.counters.specs.Words.{Whole, TurnedAcross};
-ghost use Rattle.counters.specs.Sound.{Sound};
-ghost use Rattle.scan.specs.Following.{Addable, scan_cost, Scannable, Follows, Short, Scans};
+ghost use Rattle.scan.specs.Following.{scan_cost, Scannable, Follows, Short, Scans};
 
 use counters::Masks;
-use fit::Search;
+use fit::Found;
+use noting::Lists;
 
-// The words after reading a: the table's words are added, and with them a counter enters at point 1.
-fn read_one(k: Masks, table: &[u64], words: &mut [u64], a: u8)
-    requires { Sound k × Addable k.b k.enter k.per (length words.old) table.now × Whole (suc k.b) k.per words.old }
-    ensures { TurnedAcross k.b k.g k.per words.old k.enter
-        (λ i. scan_cost k (length words.old) table.now i a) words.new }
-{
-    let used = words.len();
-    let from = reading::index(a) * used;
-    let to = from + used;
-    counters::step_words(k, words, &table[from..to]);
+// What is scanned, and by what: a recording by the counters of m points, which take `used` words, with a table of what each reading adds to them.
+#[derive(Clone, Copy)]
+pub struct Scan<'a> {
+    pub masks: Masks,
+    pub m: usize,
+    pub used: usize,
+    pub table: &'a [u64],
+    pub recording: &'a [u8],
+    pub ghost scannable: { Scannable masks m used table.now recording.now },
 }
 
-// Reads the readings that end no window, so that none of them is asked for one, and answers how many they are. Before them all counters are
-// above g.
-pub fn read_lead(k: Masks, m: usize, table: &[u64], words: &mut [u64], recording: &[u8]) -> usize
-    requires { Scannable k m (length words.old) table.now recording.now
-        × (words.old ≡ replicate (length words.old) k.top) }
-    ensures { (result ≡ length recording.now - windows m (length recording.now))
-        × Follows k (length words.old) table.now recording.now words.new result }
-{
-    let lead = recording.len() - window::count_windows(m, recording);
-    let mut j = 0;
-    while j < lead {
-        read_one(k, table, words, recording[j]);
-        j += 1;
+impl Scan<'_> {
+    // The words after reading a: the table's words are added, and with them a counter enters at point 1.
+    fn read_one(&self, words: &mut [u64], a: u8)
+        requires { (length words.old ≡ self.now.used) × Whole (suc self.now.masks.b) self.now.masks.per words.old }
+        ensures { TurnedAcross self.now.masks.b self.now.masks.g self.now.masks.per words.old self.now.masks.enter
+            (λ i. scan_cost self.now.masks self.now.used self.now.table.now i a) words.new }
+    {
+        // asked of the words, whose number the compiler may know
+        let used = words.len();
+        let from = reading::index(a) * used;
+        self.masks.step_words(words, &self.table[from..from + used]);
     }
-    lead
-}
 
-// Which counter of its word is the last point's.
-fn last_at(k: Masks, m: usize) -> u32
-    requires { Sound k × (1 ≤ m) }
-    ensures { (result ≡ (m - 1) % k.per) × (result < k.per) }
-{
-    ((m - 1) % (k.per as usize)) as u32
-}
-
-// The top bit of counter `at` of a word.
-fn top_bit(k: Masks, at: u32) -> u64
-    requires { Sound k × (at < k.per) }
-    ensures { result ≡ 2 ^ (suc k.b * at + k.b) }
-{
-    1u64 << ((k.b + 1) * at + k.b)
-}
-
-// The sum of a place, which counter `at` of the word tells: the counter less what it started at. Of a window that is none, 0.
-fn told_sum(k: Masks, at: u32, word: u64, hit: bool) -> u16
-    requires { Sound k × (at < k.per) × (hit ≡ true → Short k.enter (counter (suc k.b) word at)) }
-    ensures { result ≡ cond hit (counter (suc k.b) word at - k.enter) 0 }
-{
-    if hit {
-        let value = (word >> ((k.b + 1) * at)) % (1u64 << (k.b + 1));
-        return (value - k.enter) as u16;
+    // Reads the readings that end no window, so that none of them is asked for one, and answers how many they are. Before them all counters are
+    // above g. This and `read_windows` are compiled into their callers, which know how many words there are.
+    #[inline(always)]
+    pub fn read_lead(&self, words: &mut [u64]) -> usize
+        requires { words.old ≡ replicate self.now.used self.now.masks.top }
+        ensures { (result ≡ length self.now.recording.now - windows self.now.m (length self.now.recording.now))
+            × Follows self.now.masks self.now.used self.now.table.now self.now.recording.now words.new result }
+    {
+        let lead = self.recording.len() - window::count_windows(self.m, self.recording);
+        for j in 0..lead {
+            self.read_one(words, self.recording[j]);
+        }
+        lead
     }
-    0
-}
 
-// Reads the readings behind the lead, and tries the window that ends at each: it is a place where the top bit of the last point's counter is
-// clear, and then that counter tells its sum. It stands in the last word.
-pub fn read_windows(
-    k: Masks,
-    m: usize,
-    table: &[u64],
-    words: &mut [u64],
-    lead: usize,
-    recording: &[u8],
-    list: &mut [u32],
-    sums: &mut [u16],
-    before: Search,
-) -> Search
-    requires scannable { Scannable k m (length words.old) table.now recording.now × (before ≡ begun 0) }
-    requires lead_value { (lead ≡ length recording.now - windows m (length recording.now))
-        × Follows k (length words.old) table.now recording.now words.old lead }
-    ensures scans { Scans k m (length words.old) table.now recording.now
-        (lent list.old sums.old) result (lent list.new sums.new) }
-    ensures follows { Follows k (length words.old) table.now recording.now words.new
-        (length recording.now) }
-{
-    let last = words.len() - 1;
-    let at = last_at(k, m);
-    let bit = top_bit(k, at);
-    let count = recording.len() - lead;
-    let mut found = before;
-    let mut s = 0;
-    while s < count {
-        read_one(k, table, words, recording[lead + s]);
-        let word = words[last];
-        let hit = word & bit == 0;
-        let sum = told_sum(k, at, word, hit);
-        found = window::note(list, sums, s, hit, sum, found);
-        s += 1;
+    // Which counter of its word is the last point's: a number below 64.
+    fn last_at(&self) -> u32
+        ensures { (result ≡ (self.now.m - 1) % self.now.masks.per) × (result < self.now.masks.per) }
+    {
+        ((self.m - 1) % (self.masks.per as usize)) as u32
     }
-    found
+
+    // The top bit of counter `at` of a word.
+    fn top_bit(&self, at: u32) -> u64
+        requires { at < self.now.masks.per }
+        ensures { result ≡ 2 ^ (suc self.now.masks.b * at + self.now.masks.b) }
+    {
+        1u64 << ((self.masks.b + 1) * at + self.masks.b)
+    }
+
+    // The sum that counter `at` of the word tells where its top bit is clear, so that the window is a place: the counter less what it started at.
+    fn told_sum(&self, at: u32, bit: u64, word: u64) -> Option<u16>
+        requires { (at < self.now.masks.per)
+            × (bit_and word bit ≡ 0 → Short self.now.masks.enter (counter (suc self.now.masks.b) word at)) }
+        ensures { result ≡ then_some (bit_and word bit == 0) (counter (suc self.now.masks.b) word at - self.now.masks.enter) }
+    {
+        if word & bit != 0 {
+            return None;
+        }
+        let width = self.masks.b + 1;
+        let value = (word >> (width * at)) % (1u64 << width);
+        // a sum, and so at most gamma
+        Some((value - self.masks.enter) as u16)
+    }
+
+    // Reads the readings behind the lead, and tries the window that ends at each: it is a place where the top bit of the last point's counter is
+    // clear, and then that counter tells its sum. It stands in the last word.
+    #[inline(always)]
+    pub fn read_windows(&self, words: &mut [u64], lead: usize, lists: &mut Lists) -> Found
+        requires { (lead ≡ length self.now.recording.now - windows self.now.m (length self.now.recording.now))
+            × Follows self.now.masks self.now.used self.now.table.now self.now.recording.now words.old lead }
+        ensures scans { Scans self.now.masks self.now.m self.now.used self.now.table.now self.now.recording.now
+            (lent_in lists.old) result (lent_in lists.new) }
+        ensures follows { Follows self.now.masks self.now.used self.now.table.now self.now.recording.now words.new
+            (length self.now.recording.now) }
+        ensures same { Same lists.old lists.new }
+    {
+        let last = words.len() - 1;
+        let at = self.last_at();
+        let bit = self.top_bit(at);
+        let mut found = Found::default();
+        for (s, &a) in self.recording[lead..].iter().enumerate() {
+            self.read_one(words, a);
+            let sum = self.told_sum(at, bit, words[last]);
+            found = noting::note(lists, s, sum, found);
+        }
+        found
+    }
 }

@@ -1,3 +1,2 @@
-pub mod Points
 pub mod Marks
 pub mod Passes

@@ -10,11 +10,12 @@ ghost use Rattle.fit.specs.Verdict.{verdict_by};
 ghost use Rattle.fit.specs.Spans.{span_cost, rule_in};
 ghost use Rattle.spans.specs.Score.{most_score, score_in};
 
-// a - b, and 0 where that is below 0.
-fn above(a: u16, b: u16) -> u16
-    ensures { result ≡ a - b }
-{
-    if a < b { 0 } else { a - b }
+// A profile of m points, compiled. The rows are one array, and not a field each, so that one law says what they hold.
+#[derive(Clone, Copy)]
+pub struct Spans {
+    pub rows: [u16; 256],
+    pub m: usize,
+    ghost few: { m ≤ max_points },
 }
 
 // How far a lies outside of low .. high. It lies in between where that is 0: one test, since a branch between its halves would be mispredicted
@@ -22,104 +23,96 @@ fn above(a: u16, b: u16) -> u16
 fn outside(low: u16, high: u16, a: u8) -> u16
     ensures { result ≡ span_cost low high a }
 {
-    let b = a as u16;
-    above(low, b) + above(b, high)
+    let b = u16::from(a);
+    low.saturating_sub(b) + b.saturating_sub(high)
 }
 
-// Whether reading a suits point i.
-pub fn suits(spans: &[u16; 256], i: usize, a: u8) -> bool
-    requires { i < max_points }
-    ensures { result ≡ (rule_in spans.now).fit i a }
-{
-    outside(spans[i], spans[64 + i], a) == 0
-}
-
-// What reading a adds to the sum at point i.
-pub fn cost(spans: &[u16; 256], i: usize, a: u8) -> u32
-    requires { i < max_points }
-    ensures { (result ≡ (rule_in spans.now).cost i a) × (result ≤ 65535) }
-{
-    outside(spans[128 + i], spans[192 + i], a) as u32
-}
-
-// Whether the readings of the window at s suit the eight points from i on too; those before them suit.
-fn eight_suit(spans: &[u16; 256], recording: &[u8], s: usize, i: usize) -> bool
-    requires { (i + 8 ≤ max_points) × (s + (i + 8) ≤ length recording.now) × (all_fit (rule_in spans.now).fit recording.now s i ≡ true) }
-    ensures { result ≡ all_fit (rule_in spans.now).fit recording.now s (i + 8) }
-{
-    let mut all = true;
-    let mut j = 0;
-    while j < 8 {
-        let at = i + j;
-        // not `&&`, which would leave at the first that does not suit
-        all = all & suits(spans, at, recording[s + at]);
-        j += 1;
+impl Spans {
+    // Whether reading a suits point i.
+    pub fn suits(&self, i: usize, a: u8) -> bool
+        requires { i < max_points }
+        ensures { result ≡ (rule_in self.now.rows).fit i a }
+    {
+        outside(self.rows[i], self.rows[64 + i], a) == 0
     }
-    all
-}
 
-// Whether they suit the points from `from` on too, one at a time; those before them suit.
-fn rest_suit(spans: &[u16; 256], m: usize, recording: &[u8], s: usize, from: usize) -> bool
-    requires { (m ≤ max_points) × (s + m ≤ length recording.now) × (from ≤ m) × (all_fit (rule_in spans.now).fit recording.now s from ≡ true) }
-    ensures { result ≡ all_fit (rule_in spans.now).fit recording.now s m }
-{
-    let mut i = from;
-    while i < m {
-        if suits(spans, i, recording[s + i]) {
-            i += 1;
-        } else {
-            return false;
+    // What reading a adds to the sum at point i.
+    pub fn cost(&self, i: usize, a: u8) -> u32
+        requires { i < max_points }
+        ensures { (result ≡ (rule_in self.now.rows).cost i a) × (result ≤ 65535) }
+    {
+        u32::from(outside(self.rows[128 + i], self.rows[192 + i], a))
+    }
+
+    // Whether the readings of the window at s suit the eight points from i on too; those before them suit.
+    fn eight_suit(&self, recording: &[u8], s: usize, i: usize) -> bool
+        requires { (i + 8 ≤ max_points) × (s + (i + 8) ≤ length recording.now) × (all_fit (rule_in self.now.rows).fit recording.now s i ≡ true) }
+        ensures { result ≡ all_fit (rule_in self.now.rows).fit recording.now s (i + 8) }
+    {
+        let mut all = true;
+        for j in 0..8 {
+            let at = i + j;
+            // not `&&`, which would leave at the first that does not suit
+            all = all & self.suits(at, recording[s + at]);
         }
+        all
     }
-    true
-}
 
-// Whether all readings of the window at s suit their points.
-fn all_suit(spans: &[u16; 256], m: usize, recording: &[u8], s: usize) -> bool
-    requires { (m ≤ max_points) × (s + m ≤ length recording.now) }
-    ensures { result ≡ all_fit (rule_in spans.now).fit recording.now s m }
-{
-    let mut i = 0;
-    while i + 8 <= m {
-        if eight_suit(spans, recording, s, i) {
-            i += 8;
-        } else {
-            return false;
+    // Whether they suit the points from `from` on too, one at a time; those before them suit.
+    fn rest_suit(&self, recording: &[u8], s: usize, from: usize) -> bool
+        requires { (s + self.now.m ≤ length recording.now) × (from ≤ self.now.m) × (all_fit (rule_in self.now.rows).fit recording.now s from ≡ true) }
+        ensures { result ≡ all_fit (rule_in self.now.rows).fit recording.now s self.now.m }
+    {
+        for i in from..self.m {
+            if !self.suits(i, recording[s + i]) {
+                return false;
+            }
         }
+        true
     }
-    rest_suit(spans, m, recording, s, i)
-}
 
-// What the readings of the window at s add up to.
-fn sum_at(spans: &[u16; 256], m: usize, recording: &[u8], s: usize) -> u32
-    requires { (m ≤ max_points) × (s + m ≤ length recording.now) }
-    ensures { result ≡ sum_cost (rule_in spans.now).cost recording.now s m }
-{
-    let mut total: u32 = 0;
-    let mut i = 0;
-    while i < m {
-        total += cost(spans, i, recording[s + i]);
-        i += 1;
+    // Whether all readings of the window at s suit their points.
+    fn all_suit(&self, recording: &[u8], s: usize) -> bool
+        requires { s + self.now.m ≤ length recording.now }
+        ensures { result ≡ all_fit (rule_in self.now.rows).fit recording.now s self.now.m }
+    {
+        let eights = self.m / 8;
+        for k in 0..eights {
+            if !self.eight_suit(recording, s, 8 * k) {
+                return false;
+            }
+        }
+        self.rest_suit(recording, s, 8 * eights)
     }
-    total
-}
 
-// The score of the window at s if all its readings suit, which is not asked here: its sum, and at most 65,535.
-pub fn fitting_score(spans: &[u16; 256], m: usize, recording: &[u8], s: usize) -> u16
-    requires { (m ≤ max_points) × (s + m ≤ length recording.now) }
-    ensures { result ≡ min (sum_cost (rule_in spans.now).cost recording.now s m) most_score }
-{
-    let sum = sum_at(spans, m, recording, s);
-    if sum < 65535 { sum as u16 } else { 65535 }
-}
-
-// The score of the window at s: what its check answers, as one number.
-pub fn score_at(spans: &[u16; 256], m: usize, recording: &[u8], s: usize) -> u16
-    requires { (m ≤ max_points) × (s + m ≤ length recording.now) }
-    ensures { (gamma : ℕ) → result ≡ score_in (verdict_by (rule_in spans.now) m gamma recording.now s) }
-{
-    if all_suit(spans, m, recording, s) {
-        return fitting_score(spans, m, recording, s);
+    // What the readings of the window at s add up to.
+    fn sum_at(&self, recording: &[u8], s: usize) -> u32
+        requires { s + self.now.m ≤ length recording.now }
+        ensures { result ≡ sum_cost (rule_in self.now.rows).cost recording.now s self.now.m }
+    {
+        let mut total = 0;
+        for i in 0..self.m {
+            total += self.cost(i, recording[s + i]);
+        }
+        total
     }
-    65535
+
+    // The score of the window at s if all its readings suit, which is not asked here: its sum, and at most 65,535.
+    pub fn fitting_score(&self, recording: &[u8], s: usize) -> u16
+        requires { s + self.now.m ≤ length recording.now }
+        ensures { result ≡ min (sum_cost (rule_in self.now.rows).cost recording.now s self.now.m) most_score }
+    {
+        u16::try_from(self.sum_at(recording, s)).unwrap_or(u16::MAX)
+    }
+
+    // The score of the window at s: what its check answers, as one number.
+    pub fn score_at(&self, recording: &[u8], s: usize) -> u16
+        requires { s + self.now.m ≤ length recording.now }
+        ensures { (gamma : ℕ) → result ≡ score_in (verdict_by (rule_in self.now.rows) self.now.m gamma recording.now s) }
+    {
+        if self.all_suit(recording, s) {
+            return self.fitting_score(recording, s);
+        }
+        u16::MAX
+    }
 }

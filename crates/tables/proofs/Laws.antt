@@ -1,1 +1,2 @@
 pub mod Holdings
+pub mod Pairs

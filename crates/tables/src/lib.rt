@@ -2,10 +2,12 @@
 // Points and positions count from 0.
 #![tactic(auto)]
 
-mod several;
+mod filling;
+mod points;
+mod seeking;
 mod single;
 
-pub use several::full_jump;
-pub use single::{
-    after_jump, jump_at, last_jump, last_table, next_jump, next_table, seen_jump, seen_table,
-};
+pub use filling::table_of;
+pub use points::Points;
+pub use seeking::least;
+pub use single::{jump_at, last_jump, last_table, next_jump, next_table, seen_jump, seen_table};

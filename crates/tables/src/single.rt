@@ -1,134 +1,91 @@
-// The rules that look at one reading, or at the last point.
-ghost use Rattle.std.specs.Prelude.{◌≡◌, ◌+◌, ◌-◌, ◌*◌, ◌≤◌, length, get_or};
-ghost use Rattle.fit.specs.Reading.{highest, alike};
+// The rules that look at one reading.
+ghost use Rattle.std.specs.Prelude.{◌≡◌, ◌+◌, ◌-◌, ◌≤◌, get_or};
+ghost use Rattle.fit.specs.Reading.{highest};
 ghost use Rattle.fit.specs.Refusal.{max_points};
 ghost use Rattle.fit.specs.Spans.{rule_in};
 ghost use Rattle.jumps.specs.Least.{greatest};
-ghost use Rattle.jumps.specs.Jumps.{last_jump, next_jump, seen_jump, after_jump};
-ghost use Rattle.tables.specs.Holding.{Holds, Usable};
+ghost use Rattle.jumps.specs.Jumps.{last_jump, next_jump, seen_jump};
+ghost use Rattle.tables.specs.Holding.{Holds};
 
-// Document 01's number of the greatest of m points that reading a suits, that is, is near; 0 if there is none.
-fn greatest_near(spans: &[u16; 256], m: usize, a: u8) -> usize
-    requires { m ≤ max_points }
-    ensures { (result ≡ greatest (λ i. (rule_in spans.now).fit i a) m) × (result ≤ m) }
+use super::{filling, seeking};
+use spans::Spans;
+
+// Document 01's number of the greatest of the first n points that reading a suits, that is, is near; 0 if there is none, since the rules count from it.
+fn greatest_near(spans: &Spans, n: usize, a: u8) -> usize
+    requires { n ≤ max_points }
+    ensures { (result ≡ greatest (λ i. (rule_in spans.now.rows).fit i a) n) × (result ≤ n) }
 {
-    let mut i = m;
-    while 0 < i {
-        if spans::suits(spans, i - 1, a) {
-            return i;
-        }
-        i -= 1;
-    }
-    0
+    seeking::greatest(n, |i| spans.suits(i, a))
 }
 
 // The last-reading jump for reading a.
-pub fn last_jump(spans: &[u16; 256], m: usize, a: u8) -> usize
-    requires { m ≤ max_points }
-    ensures { (result ≡ last_jump (rule_in spans.now).fit m a) × (result ≤ m) }
+pub fn last_jump(spans: &Spans, a: u8) -> usize
+    ensures { (result ≡ last_jump (rule_in spans.now.rows).fit spans.now.m a) × (result ≤ spans.now.m) }
 {
-    m - greatest_near(spans, m, a)
+    spans.m - greatest_near(spans, spans.m, a)
 }
 
 // The next-reading jump for reading a.
-pub fn next_jump(spans: &[u16; 256], m: usize, a: u8) -> usize
-    requires { m ≤ max_points }
-    ensures { (result ≡ next_jump (rule_in spans.now).fit m a) × (result ≤ m + 1) }
+pub fn next_jump(spans: &Spans, a: u8) -> usize
+    ensures { (result ≡ next_jump (rule_in spans.now.rows).fit spans.now.m a) × (result ≤ spans.now.m + 1) }
 {
-    m + 1 - greatest_near(spans, m, a)
+    spans.m + 1 - greatest_near(spans, spans.m, a)
 }
 
 // The jump after a tried window whose last reading is a.
-pub fn seen_jump(spans: &[u16; 256], m: usize, a: u8) -> usize
-    requires { (m ≤ max_points) × (1 ≤ m) }
-    ensures { (result ≡ seen_jump (rule_in spans.now).fit m a) × (result ≤ m) }
+pub fn seen_jump(spans: &Spans, a: u8) -> usize
+    requires { 1 ≤ spans.now.m }
+    ensures { (result ≡ seen_jump (rule_in spans.now.rows).fit spans.now.m a) × (result ≤ spans.now.m) }
 {
-    m - greatest_near(spans, m - 1, a)
+    spans.m - greatest_near(spans, spans.m - 1, a)
 }
 
-// For each reading, `top` less document 01's number of the greatest point that it suits.
-fn jump_table(spans: &[u16; 256], m: usize, top: usize) -> [u8; 256]
-    requires { (m ≤ max_points) × (m ≤ top) × (top ≤ max_points + 1) }
-    ensures { Holds (λ a. top - greatest (λ i. (rule_in spans.now).fit i a) m) 256 256 result }
+// For each reading, `top` less document 01's number of the greatest of the first n points that it suits.
+fn jump_table(spans: &Spans, n: usize, top: usize) -> [u8; 256]
+    requires { (n ≤ max_points) × (n ≤ top) × (top ≤ max_points + 1) }
+    ensures { Holds (λ a. top - greatest (λ i. (rule_in spans.now.rows).fit i a) n) 256 256 result }
 {
-    let mut table = [0u8; 256];
-    let mut a: usize = 0;
-    while a < 256 {
-        let jump = top - greatest_near(spans, m, a as u8);
-        table[a] = jump as u8;
-        a += 1;
-    }
-    table
+    // a is below 256, and a jump at most 65
+    filling::table_of(256, |a| (top - greatest_near(spans, n, a as u8)) as u8)
 }
 
 // The entry of reading a.
 pub fn jump_at(table: &[u8; 256], a: u8) -> usize
     ensures { (result ≡ get_or table.now a 0) × (result ≤ highest) }
 {
-    reading::index(table[reading::index(a)])
+    usize::from(table[usize::from(a)])
 }
 
 // The jumps after a tried window, for all last readings.
-pub fn seen_table(spans: &[u16; 256], m: usize) -> [u8; 256]
-    requires { (1 ≤ m) × (m ≤ max_points) }
-    ensures { Holds (seen_jump (rule_in spans.now).fit m) 256 256 result }
+pub fn seen_table(spans: &Spans) -> [u8; 256]
+    requires { 1 ≤ spans.now.m }
+    ensures { Holds (seen_jump (rule_in spans.now.rows).fit spans.now.m) 256 256 result }
 {
-    jump_table(spans, m - 1, m)
+    jump_table(spans, spans.m - 1, spans.m)
 }
 
 // The last-reading jump for reading a, where `seen` is its jump after a tried window: they differ where a is near the last point, and only there.
-fn last_of(spans: &[u16; 256], m: usize, a: u8, seen: u8) -> u8
-    requires { (seen ≡ seen_jump (rule_in spans.now).fit m a) × (m ≤ max_points) × (1 ≤ m) }
-    ensures { result ≡ last_jump (rule_in spans.now).fit m a }
+fn last_of(spans: &Spans, a: u8, seen: u8) -> u8
+    requires { (seen ≡ seen_jump (rule_in spans.now.rows).fit spans.now.m a) × (1 ≤ spans.now.m) }
+    ensures { result ≡ last_jump (rule_in spans.now.rows).fit spans.now.m a }
 {
-    if spans::suits(spans, m - 1, a) {
+    if spans.suits(spans.m - 1, a) {
         return 0;
     }
     seen
 }
 
 // The last-reading jumps of all readings, from their jumps after a tried window.
-pub fn last_table<'a>(spans: &'a [u16; 256], m: usize, seen: &'a [u8; 256]) -> [u8; 256]
-    requires { Holds (seen_jump (rule_in spans.now).fit m) 256 256 seen.now × (m ≤ max_points) × (1 ≤ m) }
-    ensures { Holds (last_jump (rule_in spans.now).fit m) 256 256 result }
+pub fn last_table<'a>(spans: &'a Spans, seen: &'a [u8; 256]) -> [u8; 256]
+    requires { Holds (seen_jump (rule_in spans.now.rows).fit spans.now.m) 256 256 seen.now × (1 ≤ spans.now.m) }
+    ensures { Holds (last_jump (rule_in spans.now.rows).fit spans.now.m) 256 256 result }
 {
-    let mut table = [0u8; 256];
-    let mut at: usize = 0;
-    while at < 256 {
-        table[at] = last_of(spans, m, at as u8, seen[at]);
-        at += 1;
-    }
-    table
+    filling::table_of(256, |a| last_of(spans, a as u8, seen[a]))
 }
 
 // The next-reading jumps of all readings.
-pub fn next_table(spans: &[u16; 256], m: usize) -> [u8; 256]
-    requires { m ≤ max_points }
-    ensures { Holds (next_jump (rule_in spans.now).fit m) 256 256 result }
+pub fn next_table(spans: &Spans) -> [u8; 256]
+    ensures { Holds (next_jump (rule_in spans.now.rows).fit spans.now.m) 256 256 result }
 {
-    jump_table(spans, m, m + 1)
-}
-
-// Document 01's number of the greatest of the first n points that differs from p by at most k; 0 if there is none.
-fn greatest_alike(points: &[u8], k: u32, p: u8, n: usize) -> usize
-    requires { n ≤ length points.now }
-    ensures { (result ≡ greatest (λ i. alike k (get_or points.now i 0) p) n) × (result ≤ n) }
-{
-    let mut i = n;
-    while 0 < i {
-        if reading::are_alike(k, points[i - 1], p) {
-            return i;
-        }
-        i -= 1;
-    }
-    0
-}
-
-// The after-check jump.
-pub fn after_jump(points: &[u8], d: u32) -> usize
-    requires { Usable d points.now }
-    ensures { result ≡ after_jump d points.now }
-{
-    let m = points.len();
-    m - greatest_alike(points, 2 * d, points[m - 1], m - 1)
+    jump_table(spans, spans.m, spans.m + 1)
 }

@@ -1,6 +1,9 @@
 // The line of the question about one window: for each s that is asked the refusal, and of the verdict its kind, its point and its sum.
+use super::case::Case;
 use super::lines;
+use page::Page;
 use questions::FlatVerdict;
+use std::iter;
 
 // A page has no room for every s of a long recording. One of more than twice so many readings is asked at so many from its start on, and from so many
 // before its end on.
@@ -8,86 +11,36 @@ const MOST_ASKED: usize = 500;
 
 // Every s from 0 to one beyond the end of the recording, or those at both ends of a long one; and the greatest number, whose window would
 // end at no number at all.
-pub(crate) fn windows(
-    page: &mut [u8],
-    at: usize,
-    points: &[u8],
-    delta: u32,
-    gamma: u32,
-    recording: &[u8],
-) -> usize {
-    let end = recording.len() + 2;
-    let named = page::put_text(page, at, b"check");
-    let started = checks(
-        page,
-        named,
-        points,
-        delta,
-        gamma,
-        recording,
-        0,
-        least(MOST_ASKED, end),
-    );
-    let ended = checks(
-        page,
-        started,
-        points,
-        delta,
-        gamma,
-        recording,
-        late(recording.len()),
-        end,
-    );
-    let last = one(page, ended, points, delta, gamma, recording, usize::MAX);
-    page::put_text(page, last, b"\n")
-}
-
-// Where what is asked at the end begins, for so many readings: none is asked twice.
-fn late(n: usize) -> usize {
-    if n <= 2 * MOST_ASKED {
-        return MOST_ASKED;
+pub(crate) fn windows(page: &mut Page, case: &Case) {
+    let end = case.recording.len() + 2;
+    // none is asked twice
+    let late = MOST_ASKED.max(case.recording.len().saturating_sub(MOST_ASKED));
+    page.put_text(b"check");
+    for s in (0..MOST_ASKED.min(end))
+        .chain(late..end)
+        .chain(iter::once(usize::MAX))
+    {
+        check(page, case, s);
     }
-    n - MOST_ASKED
+    page.put_text(b"\n");
 }
 
-fn least(a: usize, b: usize) -> usize {
-    if a < b { a } else { b }
-}
-
-// What is answered for each s from `from` on, below `end`.
-fn checks(
-    page: &mut [u8],
-    at: usize,
-    points: &[u8],
-    delta: u32,
-    gamma: u32,
-    recording: &[u8],
-    from: usize,
-    end: usize,
-) -> usize {
-    let mut put = at;
-    for s in from..end {
-        put = one(page, put, points, delta, gamma, recording, s);
-    }
-    put
-}
-
-fn one(
-    page: &mut [u8],
-    at: usize,
-    points: &[u8],
-    delta: u32,
-    gamma: u32,
-    recording: &[u8],
-    s: usize,
-) -> usize {
-    let answer = questions::check(points, delta, gamma, recording, s);
-    numbers(page, at, questions::told(answer))
-}
-
-fn numbers(page: &mut [u8], at: usize, answer: FlatVerdict) -> usize {
-    let refused = lines::spaced(page, at, answer.refusal as u64);
-    let named = lines::spaced(page, refused, answer.kind as u64);
-    let pointed = lines::spaced(page, named, answer.point as u64);
-    lines::spaced(page, pointed, answer.sum as u64)
+// What is answered for s.
+fn check(page: &mut Page, case: &Case, s: usize) {
+    let flat = FlatVerdict::from(questions::check(
+        case.points,
+        case.head.delta,
+        case.head.gamma,
+        case.recording,
+        s,
+    ));
+    lines::entries(
+        page,
+        &[
+            u64::from(flat.refusal),
+            u64::from(flat.kind),
+            flat.point as u64,
+            u64::from(flat.sum),
+        ],
+    );
 }

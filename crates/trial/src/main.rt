@@ -3,6 +3,7 @@
 #![tactic(auto)]
 
 mod asked;
+mod case;
 mod judged;
 mod lines;
 mod searched;
@@ -10,7 +11,8 @@ mod searched;
 ghost use Rattle.std.specs.Prelude.{◌≡◌, length};
 ghost use Rattle.std.specs.Io.{ReadsAtMost};
 
-use framed::Head;
+use case::Case;
+use page::Page;
 use std::io;
 use std::io::{Read, Write};
 
@@ -37,37 +39,28 @@ fn one_case<R: Read, W: Write>(
     let head = framed::head_of(&bytes[..got]);
     let m = read_start(reader, points, head.m)?;
     let n = read_start(reader, recording, head.n)?;
-    if is_whole(got, m, n, head) {
-        print_case(writer, &points[..m], &recording[..n], head)?;
-        return Ok(true);
+    // whether all that the head says came
+    if got < bytes.len() || m < head.m || n < head.n {
+        writer.write_all(b"frame cut short, or too large\n")?;
+        return Ok(false);
     }
-    writer.write_all(b"frame cut short, or too large\n")?;
-    Ok(false)
+    let case = Case {
+        head,
+        points: &points[..m],
+        recording: &recording[..n],
+    };
+    print_case(writer, &case)?;
+    Ok(true)
 }
 
-// Whether all that the head says came: so many of its 18 bytes, of the points and of the readings.
-fn is_whole(got: usize, m: usize, n: usize, head: Head) -> bool {
-    if got < 18 {
-        return false;
-    }
-    if m < head.m {
-        return false;
-    }
-    head.n <= n
-}
-
-// Prints the lines of one case, with the tolerances and lent lists that its head asks for.
-fn print_case<W: Write>(
-    writer: &mut W,
-    points: &[u8],
-    recording: &[u8],
-    head: Head,
-) -> io::Result<()> {
-    let mut page = [0u8; PAGE];
-    let at = searched::searches(&mut page, points, recording, head);
-    let at = asked::questions(&mut page, at, points, head.delta, head.gamma);
-    let at = judged::windows(&mut page, at, points, head.delta, head.gamma, recording);
-    lines::write(writer, &page, at)
+// Prints the lines of one case.
+fn print_case<W: Write>(writer: &mut W, case: &Case) -> io::Result<()> {
+    let mut bytes = [0u8; PAGE];
+    let mut page = Page::new(&mut bytes);
+    searched::searches(&mut page, case);
+    asked::questions(&mut page, case);
+    judged::windows(&mut page, case);
+    writer.write_all(page.written())
 }
 
 // Reads n bytes to the start of a buffer, if it has that many, and answers how many came.

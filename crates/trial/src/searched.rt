@@ -1,143 +1,86 @@
 // The lines of the searchers: the refusal, the total of places, the count of windows tried, the least sum, every entry of the list of places and,
 // behind the word `sums`, of the list of sums. Then that of `first`, which has no list: the refusal, 1 where there is a place, that place, and the
 // count of windows tried.
+use super::case::Case;
 use super::lines;
 use first::Flat;
-use fit::Search;
-use framed::Head;
+use fit::{Found, Refusal, Search};
+use page::Page;
+use std::array;
 
 // A lent list has at most so many entries.
 const MOST_ROOM: usize = 200;
 
-// By which searcher.
-#[derive(Clone, Copy)]
-enum By {
-    Plain,
-    Packed,
-    Last,
-    Skip,
-    Maximal,
-}
+// An untouched entry of a lent list shows by its number: this and its index. No place and no sum is so great.
+const UNTOUCHED: u32 = 1000000000;
+
+const UNTOUCHED_SUM: u16 = 60000;
 
 // A line for each searcher, each with lists of its own, as long as the head says, and the line of `first`.
-pub(crate) fn searches(page: &mut [u8], points: &[u8], recording: &[u8], head: Head) -> usize {
-    let at = with_lists(page, 0, By::Plain, points, recording, head);
-    let at = with_lists(page, at, By::Packed, points, recording, head);
-    let at = with_lists(page, at, By::Last, points, recording, head);
-    let at = with_lists(page, at, By::Skip, points, recording, head);
-    let at = with_lists(page, at, By::Maximal, points, recording, head);
-    first_place(page, at, points, head.delta, head.gamma, recording)
+pub(crate) fn searches(page: &mut Page, case: &Case) {
+    line(page, case, b"plain", plain::search);
+    line(page, case, b"packed", packed::search);
+    line(page, case, b"last", last::search);
+    line(page, case, b"skip", skip::search);
+    line(page, case, b"maximal", maximal::search);
+    first_place(page, case);
 }
 
-fn with_lists(
-    page: &mut [u8],
-    at: usize,
-    by: By,
-    points: &[u8],
-    recording: &[u8],
-    head: Head,
-) -> usize {
-    let mut list = [0u32; MOST_ROOM];
-    let mut sums = [0u16; MOST_ROOM];
-    if MOST_ROOM < head.room {
-        return at;
-    }
-    if MOST_ROOM < head.sums {
-        return at;
-    }
-    line(
+// The line of one searcher: its name, what it answers, and both lists, whose entries are all marked before the search. `as` here and below, since no
+// `From` goes by a `usize` having 64 bits.
+fn line<S>(page: &mut Page, case: &Case, name: &[u8], search: S)
+where
+    S: FnOnce(&[u8], u32, u32, &[u8], &mut [u32], &mut [u16]) -> Result<Found, Refusal>,
+    requires { S.IsAlwaysCallable search }
+{
+    let mut list: [u32; MOST_ROOM] = array::from_fn(|k| UNTOUCHED + k as u32);
+    let mut sums: [u16; MOST_ROOM] = array::from_fn(|k| UNTOUCHED_SUM + k as u16);
+    let Some(list) = list.get_mut(..case.head.room) else {
+        return;
+    };
+    let Some(sums) = sums.get_mut(..case.head.sums) else {
+        return;
+    };
+    let found = Search::from(search(
+        case.points,
+        case.head.delta,
+        case.head.gamma,
+        case.recording,
+        list,
+        sums,
+    ));
+    page.put_text(name);
+    lines::entries(
         page,
-        at,
-        by,
-        points,
-        head.delta,
-        head.gamma,
-        recording,
-        &mut list[..head.room],
-        &mut sums[..head.sums],
-    )
+        &[
+            u64::from(found.refusal),
+            found.total as u64,
+            found.tried as u64,
+            u64::from(found.least),
+        ],
+    );
+    lines::entries(page, list);
+    page.put_text(b" sums");
+    lines::entries(page, sums);
+    page.put_text(b"\n");
 }
 
-// The line of one searcher. The entries of both lists are marked before the search.
-fn line(
-    page: &mut [u8],
-    at: usize,
-    by: By,
-    points: &[u8],
-    delta: u32,
-    gamma: u32,
-    recording: &[u8],
-    list: &mut [u32],
-    sums: &mut [u16],
-) -> usize {
-    lines::mark(list);
-    lines::mark_sums(sums);
-    let found = search(by, points, delta, gamma, recording, list, sums);
-    answer(page, at, by, found, list, sums)
-}
-
-// The searcher's name, what it answers, and both lists.
-fn answer(page: &mut [u8], at: usize, by: By, found: Search, list: &[u32], sums: &[u16]) -> usize {
-    let named = name(page, at, by);
-    let counted = counts(page, named, found);
-    let listed = lines::entries(page, counted, list);
-    let parted = page::put_text(page, listed, b" sums");
-    let told = lines::sum_entries(page, parted, sums);
-    page::put_text(page, told, b"\n")
-}
-
-fn name(page: &mut [u8], at: usize, by: By) -> usize {
-    match by {
-        By::Plain => page::put_text(page, at, b"plain"),
-        By::Packed => page::put_text(page, at, b"packed"),
-        By::Last => page::put_text(page, at, b"last"),
-        By::Skip => page::put_text(page, at, b"skip"),
-        By::Maximal => page::put_text(page, at, b"maximal"),
-    }
-}
-
-fn counts(page: &mut [u8], at: usize, found: Search) -> usize {
-    let refused = lines::spaced(page, at, found.refusal as u64);
-    let counted = lines::spaced(page, refused, found.total as u64);
-    let tried = lines::spaced(page, counted, found.tried as u64);
-    lines::spaced(page, tried, found.least as u64)
-}
-
-fn search(
-    by: By,
-    points: &[u8],
-    delta: u32,
-    gamma: u32,
-    recording: &[u8],
-    list: &mut [u32],
-    sums: &mut [u16],
-) -> Search {
-    match by {
-        By::Plain => plain::search(points, delta, gamma, recording, list, sums),
-        By::Packed => packed::search(points, delta, gamma, recording, list, sums),
-        By::Last => last::search(points, delta, gamma, recording, list, sums),
-        By::Skip => skip::search(points, delta, gamma, recording, list, sums),
-        By::Maximal => maximal::search(points, delta, gamma, recording, list, sums),
-    }
-}
-
-fn first_place(
-    page: &mut [u8],
-    at: usize,
-    points: &[u8],
-    delta: u32,
-    gamma: u32,
-    recording: &[u8],
-) -> usize {
-    let answer = first::search(points, delta, gamma, recording);
-    let named = page::put_text(page, at, b"first");
-    let told = numbers(page, named, first::told(answer));
-    page::put_text(page, told, b"\n")
-}
-
-fn numbers(page: &mut [u8], at: usize, answer: Flat) -> usize {
-    let refused = lines::spaced(page, at, answer.refusal as u64);
-    let found = lines::spaced(page, refused, answer.found as u64);
-    let placed = lines::spaced(page, found, answer.place as u64);
-    lines::spaced(page, placed, answer.tried as u64)
+fn first_place(page: &mut Page, case: &Case) {
+    let flat = Flat::from(first::search(
+        case.points,
+        case.head.delta,
+        case.head.gamma,
+        case.recording,
+    ));
+    page.put_text(b"first");
+    lines::entries(
+        page,
+        &[
+            u64::from(flat.refusal),
+            u64::from(flat.found),
+            flat.place as u64,
+            flat.tried as u64,
+        ],
+    );
+    page.put_text(b"\n");
 }

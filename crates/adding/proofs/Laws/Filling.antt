@@ -1,25 +1,25 @@
 -- The table of additions as it is built: a word from its last point down, the list from its first reading up. Assumes nothing.
-use mathlib.Core.Path.{◌≡◌, refl, sym, ap, ◌∙◌}
+use mathlib.Core.Path.{◌≡◌, sym, ap, ◌∙◌}
 use mathlib.Core.Logic.{⊎_elim}
-use mathlib.Core.List.{List}
-use Prim.Native.Nat.{ℕ, zero, suc, min, ◌+◌, ◌-◌, ◌*◌, ◌/◌, ◌%◌, ◌^◌, ◌≤◌, ◌<◌}
-use native.Mathlib.Nat.{le_trans, lt_of_lt_of_le, mul-le-mul, mul-le-mul_left, mul-le-mul_right, one-mul, add-sub_cancel_left, sub_self, sub-zero, zero-add, zero-mul}
+use mathlib.Core.List.{List, [], ◌∷◌, ◌++◌}
+use Prim.Native.Nat.{ℕ, zero, suc, min, ◌+◌, ◌-◌, ◌*◌, ◌%◌, ◌^◌, ◌≤◌, ◌<◌}
+use native.Mathlib.Nat.{le_trans, lt_of_lt_of_le, mul-le-mul, mul-le-mul_left, mul-le-mul_right, add-sub_cancel_left, zero-add, zero-mul}
 use native.Mathlib.Omega.{arith}
-use lib.Arith.{digits_lt, digits_div, digits_mod}
 use lib.Bits.{bit_or}
-use lib.ListN.{length, get_or, set, take, drop, length-set, length-take, length-drop}
-use lib.Seq.{drop-set-lt, get_or-set_same, get_or-set_other, get_or-take, get_or-drop}
+use lib.ListN.{length, get_or, take, drop, length-append, length-take, length-drop}
+use lib.Seq.{get_or-take, get_or-drop, get_or-append_seam, take-append_seam}
+use Rattle.std.proofs.lemmas.List.{length_push, take-take}
+use Rattle.std.proofs.lemmas.Slice.{between_is, between-put_mid, take-put_mid_below, drop-put_mid}
+use borrow.Rule.Slice.PartMut.{put_mid}
 use borrow.Author.Count.{below_more}
 use borrow.Author.Tests.{lt-ltb, le-ltb}
 use Rattle.fit.specs.Reading.{highest}
-use Rattle.fit.specs.Refusal.{max_points}
 use Rattle.counters.specs.Word.{word_bits, Laid}
 use Rattle.counters.specs.Sums.{moved, entering}
 use Rattle.counters.proofs.Laws.Widths.{le_or_lt}
-use Rattle.counters.proofs.Laws.Laying.{laid_none, laid_same, laid_more, laid_wider, laid_entering}
+use Rattle.counters.proofs.Laws.Laying.{laid_same, laid_more, laid_wider, laid_entering}
 use Rattle.counters.proofs.Laws.Ends.{moved_first, moved_next, entering_next, costs_is}
-use Rattle.counters.proofs.Laws.Across.{laid_across}
-use Rattle.counters.specs.Words.{across}
+use Rattle.counters.specs.Words.{across, LaidAcross}
 use Rattle.adding.specs.Costs.{with_entering}
 use Rattle.adding.specs.Tables.{row_of, cost_in, padded, Tabled, TabledIn}
 
@@ -29,27 +29,35 @@ pub record Filled (l m : ℕ) (f : ℕ → ℕ) (w i : ℕ) : Type 0 where
   pub laid : Laid l (m - i) w (λ t. f (i + t))
 
 module _ (l m : ℕ) (f : ℕ → ℕ) where
-  pub filled_start : Filled l m f 0 m
-  filled_start = record { within = omega arith; laid = rw sub_self (laid_none l _) }
-
-  pub filled_more : (w i v : ℕ) → Filled l m f w i → 0 < i → l * m ≤ word_bits → v < 2 ^ l → v ≡ f (i - 1)
-      → Filled l m f (bit_or (w * 2 ^ l % 2 ^ word_bits) v) (i - 1)
-  filled_more w i v h some fit small e =
-      let n : m - (i - 1) ≡ suc (m - i) = omega (arith, h.within) in
+  -- and the point before them, with v
+  pub filled_more : (w i v : ℕ) → Filled l m f w (i + 1) → l * m ≤ word_bits → v < 2 ^ l → v ≡ f i
+      → Filled l m f (bit_or (w * 2 ^ l % 2 ^ word_bits) v) i
+  filled_more w i v h fit small e =
+      let n : m - i ≡ suc (m - (i + 1)) = omega (arith, h.within) in
       record {
         within = omega (arith, h.within);
         laid = rw n
-            (laid_same l (laid_more l (m - i) w v (λ t. f (i + t)) (le_trans (mul-le-mul_left l (omega (arith, h.within))) fit) small h.laid) same);
+            (laid_same l (laid_more l (m - (i + 1)) w v (λ t. f (i + 1 + t)) (le_trans (mul-le-mul_left l (omega (arith, h.within))) fit) small h.laid) same);
       }
     where
-      same : (t : ℕ) → t < suc (m - i) → moved v (λ t. f (i + t)) t ≡ f (i - 1 + t)
-      same zero k = moved_first v (λ t. f (i + t)) ∙ e ∙ ap f (omega arith)
-      same (suc t) k = moved_next v (λ t. f (i + t)) t ∙ ap f (omega arith)
+      same : (t : ℕ) → t < suc (m - (i + 1)) → moved v (λ t. f (i + 1 + t)) t ≡ f (i + t)
+      same zero k = moved_first v (λ t. f (i + 1 + t)) ∙ e ∙ ap f (omega arith)
+      same (suc t) k = moved_next v (λ t. f (i + 1 + t)) t ∙ ap f (omega arith)
 
-  pub filled_end : (w i : ℕ) → Filled l m f w i → i ≤ 0 → Laid l m w f
-  filled_end w i h z =
-      let e : i ≡ 0 = omega arith in
-      laid_same l (rw (e, sub-zero) at h.laid) (λ t _. rw zero-add)
+-- ---- the points are taken from the last down: those that are left stand in front
+module _ (x rest : List ℕ) (v : ℕ) (front : rest ++ v ∷ [] ≡ take (length (rest ++ v ∷ [])) x) where
+  -- the next one is the last of them
+  pub last_left : v ≡ get_or x (length rest) 0
+  last_left =
+      sym (get_or-append_seam rest v [] 0)
+      ∙ ap (λ (xs : List ℕ). get_or xs (length rest) 0) front
+      ∙ get_or-take (length (rest ++ v ∷ [])) x (length rest) 0 (omega (arith, length_push rest v))
+
+  pub others_left : rest ≡ take (length rest) x
+  others_left =
+      sym (take-append_seam rest (v ∷ []))
+      ∙ ap (take (length rest)) front
+      ∙ take-take (length rest) (length (rest ++ v ∷ [])) x (omega (arith, length_push rest v))
 
 -- ---- costs at the points, and 0 behind them
 module _ (m : ℕ) (f : ℕ → ℕ) (i : ℕ) where
@@ -108,12 +116,6 @@ module _ (x : List ℕ) (o n from to : ℕ) (from_is : from ≡ min o (length x)
           ap f (get_or-take (to - from) (drop from x) t 0 k ∙ get_or-drop from x t 0 ∙ ap (λ (i : ℕ). get_or x (i + t) 0) e)
           ∙ sym (padded_below (length x) (λ i. f (get_or x i 0)) (o + t) (omega arith))
 
--- the code's products with a number of words are small
-pub words_small : (l n j : ℕ) → l * n ≤ word_bits → 1 ≤ l → j ≤ max_points → (n ≤ word_bits) × (j * n ≤ max_points * word_bits)
-words_small l n j fit some few =
-    let narrow : n ≤ word_bits = le_trans (rw one-mul at (mul-le-mul_right n some)) fit in
-    (narrow, mul-le-mul few narrow)
-
 -- ---- the words of a reading in the table
 module _ (k : ℕ) (t : List ℕ) (a : ℕ) (long : suc highest * k ≤ length t) (byte : a < suc highest) where
   pub row_ends : a * k + k ≤ length t
@@ -129,47 +131,63 @@ module _ (k : ℕ) (t : List ℕ) (a : ℕ) (long : suc highest * k ≤ length t
 pub row_part : (k : ℕ) (t : List ℕ) (a r : ℕ) → r ≡ a → take (r * k + k - r * k) (drop (r * k) t) ≡ row_of k t a
 row_part k t a r e = rw (e, add-sub_cancel_left)
 
--- ---- the table as it is built: the words below i are laid, k to a reading
-pub record Listed (l n k m : ℕ) (cost : ℕ → ℕ → ℕ) (entry t : List ℕ) (i : ℕ) : Type 0 where
-  pub within : i ≤ suc highest * k
+-- ---- a row is written
+module _ (k a : ℕ) (t row : List ℕ) (within : a * k + k ≤ length t) (long : length row ≡ k) where
+  abbrev written : List ℕ
+  written = put_mid (a * k) k t row
+
+  width : a * k + k - a * k ≡ k
+  width = add-sub_cancel_left (a * k) k
+
+  -- it is the row of its reading
+  row_written : row_of k written a ≡ row
+  row_written = rw width at (between-put_mid (a * k) k t row (a * k + k) (omega arith) (long ∙ sym width))
+
+  -- the rows before it are as they were
+  row_cut : (b : ℕ) (ws : List ℕ) → row_of k ws b ≡ drop (b * k) (take (b * k + k) ws)
+  row_cut b ws = rw (add-sub_cancel_left (b * k) k) at (between_is ws (b * k) (b * k + k))
+
+  row_kept : (b : ℕ) → b < a → row_of k written b ≡ row_of k t b
+  row_kept b h =
+      let before : suc b * k ≤ a * k = mul-le-mul_right k h in
+      row_cut b written
+      ∙ ap (drop (b * k)) (take-put_mid_below (a * k) k t row (b * k + k) (omega (arith, before)) (omega arith))
+      ∙ sym (row_cut b t)
+
+  -- and so is what stands behind it
+  rest_kept : (q : ℕ) → a * k + k ≤ q → drop q written ≡ drop q t
+  rest_kept q h = drop-put_mid (a * k) k t row q h (omega arith) long
+
+-- ---- the table as it is built: the rows of the readings below a are laid
+pub record Listed (l n k m : ℕ) (cost : ℕ → ℕ → ℕ) (entry t : List ℕ) (a : ℕ) : Type 0 where
   pub long : suc highest * k ≤ length entry
   pub same : length t ≡ length entry
   pub rest : drop (suc highest * k) t ≡ drop (suc highest * k) entry
-  pub each : (q : ℕ) → q < i → Laid l n (get_or t q 0) (λ c. padded m (λ p. cost p (q / k)) (q % k * n + c))
+  pub each : (b : ℕ) → b < a → LaidAcross l n (row_of k t b) (padded m (λ i. cost i b))
 
 module _ (l n k m : ℕ) (cost : ℕ → ℕ → ℕ) (entry : List ℕ) where
-  pub listed_start : suc highest * k ≤ length entry → Listed l n k m cost entry entry 0
-  listed_start h = record { within = omega arith; long = h; same = refl; rest = refl; each = λ q r. absurd (omega arith) }
+  pub listed_more : (t row : List ℕ) (a : ℕ) → Listed l n k m cost entry t a → a < suc highest → length row ≡ length (row_of k t a) → LaidAcross l n row (padded m (λ i. cost i a)) → Listed l n k m cost entry (put_mid (a * k) k t row) (a + 1)
+  listed_more t row a h byte as_long laid =
+      let ends : suc a * k ≤ suc highest * k = mul-le-mul_right k byte in
+      let within : a * k + k ≤ length t = omega (arith, ends, h.long, h.same) in
+      let long : length row ≡ k = as_long ∙ row_length k t a (rw h.same h.long) byte in
+      let kept : length (put_mid (a * k) k t row) ≡ length t = simp (length-append, length-take, length-drop) (omega arith) in
+      record {
+        long = h.long;
+        same = kept ∙ h.same;
+        rest = rest_kept k a t row within long (suc highest * k) (omega (arith, ends)) ∙ h.rest;
+        each =
+            below_more (λ (b : ℕ). LaidAcross l n (row_of k (put_mid (a * k) k t row) b) (padded m (λ i. cost i b))) a
+            (λ b r. rw (row_kept k a t row within long b r) (h.each b r))
+            (rw (row_written k a t row within long) laid);
+      }
 
-  pub listed_more : (t : List ℕ) (i w : ℕ) → Listed l n k m cost entry t i → i < suc highest * k → Laid l n w (λ c. padded m (λ p. cost p (i / k)) (i % k * n + c))
-      → Listed l n k m cost entry (set t i w) (i + 1)
-  listed_more t i w h small laid = record {
-    within = omega arith;
-    long = h.long;
-    same = length-set t i w ∙ h.same;
-    rest = drop-set-lt (suc highest * k) t i w small ∙ h.rest;
-    each =
-        below_more (λ (q : ℕ). Laid l n (get_or (set t i w) q 0) (λ c. padded m (λ p. cost p (q / k)) (q % k * n + c))) i
-        (λ q r. rw (get_or-set_other t i q w 0 (λ e. absurd (omega arith))) (h.each q r))
-        (rw (get_or-set_same t i w 0 (omega (arith, h.long, h.same))) laid);
-  }
-
-  pub listed_end : (t : List ℕ) (i : ℕ) → 1 ≤ n → Listed l n k m cost entry t i → suc highest * k ≤ i → TabledIn l n k m cost entry t
-  listed_end t i some h all = record {
-    tabled = record { long = long; each = λ a byte. laid_across l n some (row_of k t a) (padded m (λ p. cost p a)) (word a byte) };
+  pub listed_end : (t : List ℕ) (a : ℕ) → Listed l n k m cost entry t a → suc highest ≤ a → TabledIn l n k m cost entry t
+  listed_end t a h all = record {
+    tabled = record { long = rw h.same h.long; each = λ b byte. h.each b (omega arith) };
     same = h.same;
     rest = h.rest;
   }
-    where
-      long : suc highest * k ≤ length t
-      long = rw h.same h.long
-
-      word : (a : ℕ) → a < suc highest → (j : ℕ) → j < length (row_of k t a) → Laid l n (get_or (row_of k t a) j 0) (λ c. padded m (λ p. cost p a) (j * n + c))
-      word a byte j r =
-          let inside : j < k = rw (← (row_length k t a long byte)) r in
-          let at : Laid l n (get_or t (a * k + j) 0) (λ c. padded m (λ p. cost p ((a * k + j) / k)) ((a * k + j) % k * n + c)) =
-          h.each (a * k + j) (lt_of_lt_of_le (digits_lt byte inside) all) in
-          rw (row_at k t a long byte j inside) (rw (digits_div a inside, digits_mod a inside) at at)
 
 -- what the words of a reading cost at the points, where the entering counter c is in them too
 pub costs_tabled : (l n c k m : ℕ) (cost : ℕ → ℕ → ℕ) (t : List ℕ) → Tabled l n k m (with_entering c cost) t → m ≤ k * n → (i a : ℕ) → i < m → a < suc highest

@@ -2,32 +2,24 @@
 use mathlib.Core.Path.{refl}
 use native.Mathlib.Omega.{arith}
 use Rattle.fit.proofs.Laws.Answers.{noted_as}
-use Rattle.fit.proofs.Laws.Runs.{running_start, running_one, running_end, run_no_place}
+use Rattle.fit.proofs.Laws.Runs.{running_one, running_end, run_no_place}
 use Rattle.block.proofs.Laws.Told.{told_at, told_sum_at, told_none}
+use Rattle.noting.proofs.Laws.Handing.{same_on}
 use Rattle.block.proofs.note_sixteen.Goals as goal
 
-pub returns-then-gamma-wide : goal.returns-then-gamma-wide
-returns-then-gamma-wide c =
+pub returns-then-gamma-from-clause-tried : goal.returns-then-gamma-from-clause-tried
+returns-then-gamma-from-clause-tried c =
     run_no_place _ _ _
-    (told_none _ _ _ _ _ c.least_of.ensures (omega (arith, c.wide.ensures, c.if-gamma-wide.true))) c.note_none.ensures
-
-pub loop-j-init : goal.loop-j-init
-loop-j-init c =
-    let known = c.requires in
-    (known.at_bound.0, known.at_bound.1, known.at_bound.2, omega arith, running_start _ _ _ _ _ refl refl known.total_le_tried.0 known.total_le_tried.1)
+    (told_none c.args.scores.now c.args.s c.args.gamma c.args.at _ (omega arith) c.least_of.ensures (omega arith)) c.note_none.ensures
 
 pub loop-j-preserved : goal.loop-j-preserved
 loop-j-preserved c =
-    let inv = c.loop-j.invariant in
     let given = c.args in (
-      inv.0,
-      inv.1,
-      inv.2,
-      omega arith,
-      running_one _ _ _ inv.4 _ (omega arith) (omega arith)
-          (noted_as _ _ _ _ _ _ _ (told_at given.scores.now given.s _ c.loop-j.j _ c.wide-in-loop-j.ensures)
-          (λ _. told_sum_at given.scores.now given.s given.gamma c.loop-j.j) c.note-found.ensures),
+      running_one _ _ _ c.loop-j.invariant.0 _ (omega arith) (omega arith)
+          (noted_as _ _ _ _ _ _ _ (told_at given.scores.now given.s _ c.loop-j.j _ refl)
+          (λ _. told_sum_at given.scores.now given.s given.gamma c.loop-j.j) c.note_score-found.ensures.noted),
+      same_on c.loop-j.invariant.1 c.note_score-found.ensures.same,
     )
 
-pub returns : goal.returns
-returns c = let inv = c.loop-j.invariant in running_end _ _ _ inv.4 (omega arith)
+pub returns-clause-tried : goal.returns-clause-tried
+returns-clause-tried c = running_end _ _ _ c.loop-j.invariant.0 (omega arith)

@@ -1,7 +1,8 @@
 -- How many counters stand in a word, and how many words are needed. Assumes nothing.
 use mathlib.Core.Path.{◌≡◌}
 use mathlib.Core.Logic.{⊎_elim}
-use Prim.Native.Nat.{ℕ, zero, suc, ◌+◌, ◌-◌, ◌*◌, ◌/◌, ◌≤◌, ◌<◌}
+use Prim.Native.Nat.{ℕ, zero, suc, min, ◌+◌, ◌-◌, ◌*◌, ◌/◌, ◌%◌, ◌≤◌, ◌<◌}
+use Rattle.std.proofs.lemmas.Grind.{div_ceil_times}
 use native.Mathlib.Nat.{div-add-mod, div-lt_iff_lt-mul, le-div_iff_mul-le, div-eq_of_lt-le, le_refl, lt-suc_self, le_of_suc-le-suc, le_antisymm, mul-le-mul_right}
 use native.Mathlib.Omega.{arith}
 use Rattle.counters.specs.Word.{word_bits}
@@ -40,6 +41,17 @@ module _ (n m : ℕ) (some : 1 ≤ n) where
       at_most k k' h h' =
           ⊎_elim (λ r. r) (λ (r : k' < k). let more : k' * n ≤ (k - 1) * n = mul-le-mul_right n (omega arith) in absurd (omega (arith, h.fewer, h'.enough)))
           (le_or_lt k k')
+
+  -- the code's division that rounds up is that number
+  pub rounded_up : 1 ≤ m → m / n + min 1 (m % n) ≡ words_for n m
+  rounded_up points = no_second_needed (m / n + min 1 (m % n)) (words_for n m) needed (words_needed points)
+    where
+      one_less : (k : ℕ) → k * n < m + n → (k - 1) * n < m
+      one_less zero h = omega arith
+      one_less (suc k) h = let e : suc k - 1 ≡ k = omega arith in rw e (omega arith)
+
+      needed : Needed n m (m / n + min 1 (m % n))
+      needed = let times = div_ceil_times m n some in record { enough = times.0; fewer = one_less (m / n + min 1 (m % n)) times.1 }
 
   module _ (k : ℕ) (points : 1 ≤ m) (h : Needed n m k) where
     pub some_word : 1 ≤ k

@@ -3,11 +3,10 @@ use mathlib.Core.Path.{◌≡◌, refl, sym, ap, ◌∙◌}
 use mathlib.Core.Logic.{◌↔◌, ⊎_elim}
 use Prim.Native.Nat.{ℕ, zero, suc, ◌+◌, ◌-◌, ◌*◌, ◌/◌, ◌%◌, ◌^◌, ◌≤◌, ◌<◌}
 use native.Mathlib.Nat.{mul-suc, add_comm, zero-mul, div-eq_of_lt, div-eq_of_lt-le}
-use native.Mathlib.Numerals.{add-one}
 use native.Mathlib.Omega.{arith}
 use lib.Pow.{shr_mod, shr-shr, field, pow_pos}
 use lib.Bits.{bit_and}
-use Rattle.counters.specs.Word.{word_bits, counter, Laid}
+use Rattle.counters.specs.Word.{counter, Laid}
 use Rattle.counters.specs.Sums.{Stands, Agrees, moved, stepped, entering, costs}
 use Rattle.counters.proofs.Laws.Widths.{le_or_lt}
 use Rattle.counters.proofs.Laws.Fields.{counter_lt}
@@ -61,9 +60,6 @@ module _ (b g m : ℕ) where
 module _ (b n : ℕ) (some : 1 ≤ n) where
   whole : suc b * n ≡ suc b + suc b * (n - 1)
   whole = ap (λ (x : ℕ). suc b * x) (omega arith) ∙ mul-suc (suc b) (n - 1) ∙ add_comm (suc b * (n - 1)) (suc b)
-
-  pub above_lt : suc b * n ≤ word_bits → (b + 1) * (n - 1) < word_bits
-  above_lt fit = rw add-one (omega (arith, whole))
 
   pub top_counter : (w : ℕ) → w < 2 ^ (suc b * n) → w / 2 ^ (suc b * (n - 1)) ≡ counter (suc b) w (n - 1)
   unfolding counter

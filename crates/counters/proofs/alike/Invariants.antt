@@ -1,10 +1,6 @@
--- `counters::alike` meets its contract: after i turns i counters are laid, each at v.
-use Prim.Native.Nat.{◌-◌, ◌≤◌}
+-- `counters::alike` meets its contract: after so many turns so many counters are laid, each at v.
 use Rattle.counters.specs.Word.{Laid}
 use Rattle.counters.proofs.alike.Given as goal
 
-abbrev pub invariant-loop-i : goal.invariant-loop-i
-invariant-loop-i l = (l.i ≤ l.m) × Laid l.l l.i l.w (λ _. l.v)
-
-abbrev pub decreases-loop-i : goal.decreases-loop-i
-decreases-loop-i l = l.m - l.i
+abbrev pub invariant-loop : goal.invariant-loop
+invariant-loop l = Laid l.l l.counter l.w (λ _. l.v)

@@ -3,8 +3,5 @@ use native.Mathlib.Omega.{arith}
 use Rattle.counters.proofs.Laws.Widths.{low_bits_length}
 use Rattle.counters.proofs.low_bits.Goals as goal
 
-pub overflow_sub-result : goal.overflow_sub-result
-overflow_sub-result c = omega (arith, low_bits_length 32 c.args.g c.ranges.g.fits)
-
 pub returns : goal.returns
 returns c = (omega (arith, low_bits_length 32 c.args.g c.ranges.g.fits), omega arith)

@@ -21,47 +21,62 @@ use Rattle.fit.proofs.Laws.Places.{place_test, test_place, in_places, place_in, 
 use Rattle.fit.proofs.Laws.Answers.{sought_places, answer_accepted, answer_refused, answer_done}
 use Rattle.last.specs.Walk.{last_walk_of}
 use Rattle.last.proofs.Laws.Ordinary.{walk_rises, walk_has}
-use Rattle.first.specs.First.{number_of, value_of, told_of, up_to_place, first_answer}
-use Rattle.first.specs.declared.Spot.{Spot}
-use Rattle.first.specs.declared.Spot.TheVariants.{Nowhere, At}
+use Rattle.first.specs.First.{number_of, value_of, place_of, tried_of, told_of, up_to_place, first_answer}
+use Rattle.std.specs.Prelude.{Option, None, Some, Result, Ok, Err}
+use Rattle.fit.specs.Refused.{number_of as refusal_number}
+use Rattle.fit.specs.declared.refusal.Refusal.{Refusal}
+use Rattle.fit.proofs.Laws.Refused.{number_some, number_only}
 use Rattle.first.specs.declared.First.{First}
 use Rattle.first.specs.declared.Flat.{Flat}
 use Rattle.first.proofs.Laws.Looking.{NoneOf, up_whole, up_to}
 
 -- ---- number and value tell the case
-spot_only : (p p' : Spot) → number_of p ≡ number_of p' → value_of p ≡ value_of p' → p ≡ p'
+spot_only : (p p' : Option ℕ) → number_of p ≡ number_of p' → value_of p ≡ value_of p' → p ≡ p'
 unfolding number_of value_of
-spot_only Nowhere Nowhere n v = refl
-spot_only Nowhere (At s) n v = absurd (omega (arith, n))
-spot_only (At s) Nowhere n v = absurd (omega (arith, n))
-spot_only (At s) (At s') n v = ap At v
+spot_only None None n v = refl
+spot_only None (Some s) n v = absurd (omega (arith, n))
+spot_only (Some s) None n v = absurd (omega (arith, n))
+spot_only (Some s) (Some s') n v = ap Some v
 
-number_nowhere : number_of Nowhere ≡ 0
+number_nowhere : number_of None ≡ 0
 unfolding number_of
 number_nowhere = refl
 
-number_at : (s : ℕ) → number_of (At s) ≡ 1
+number_at : (s : ℕ) → number_of (Some s) ≡ 1
 unfolding number_of
 number_at s = refl
 
-value_nowhere : value_of Nowhere ≡ 0
+value_nowhere : value_of None ≡ 0
 unfolding value_of
 value_nowhere = refl
 
-value_at : (s : ℕ) → value_of (At s) ≡ s
+value_at : (s : ℕ) → value_of (Some s) ≡ s
 unfolding value_of
 value_at s = refl
 
 -- ---- no second answer
-told_only : (r r' : First) → told_of r ≡ told_of r' → r ≡ r'
-told_only r r' e =
-    let refusal = ap (λ (f : Flat). f.refusal) e in
-    let spot = spot_only r.spot r'.spot (ap (λ (f : Flat). f.found) e) (ap (λ (f : Flat). f.place) e) in
-    let tried = ap (λ (f : Flat). f.tried) e in
-    λ i. record { refusal = refusal i; spot = spot i; tried = tried i }
+same_first : (f f' : First) → f.place ≡ f'.place → f.tried ≡ f'.tried → f ≡ f'
+same_first f f' p t = λ i. record { place = p i; tried = t i }
 
-pub no_second_first : (definition : Flat) (r r' : First) → told_of r ≡ definition → told_of r' ≡ definition → r ≡ r'
+told_only : (r r' : Result First Refusal) → told_of r ≡ told_of r' → r ≡ r'
+told_only (Ok f) (Ok f') e =
+    ap (λ (u : First). Ok u)
+    (same_first f f' (spot_only f.place f'.place (ap (λ (k : Flat). k.found) e) (ap (λ (k : Flat). k.place) e)) (ap (λ (k : Flat). k.tried) e))
+told_only (Ok f) (Err e') e = absurd (omega (arith, number_some e', ap (λ (k : Flat). k.refusal) e))
+told_only (Err d) (Ok f') e = absurd (omega (arith, number_some d, ap (λ (k : Flat). k.refusal) e))
+told_only (Err d) (Err e') e = ap (λ (u : Refusal). Err u) (number_only d e' (ap (λ (k : Flat). k.refusal) e))
+
+pub no_second_first : (definition : Flat) (r r' : Result First Refusal) → told_of r ≡ definition → told_of r' ≡ definition → r ≡ r'
 no_second_first definition r r' e e' = told_only r r' (e ∙ sym e')
+
+-- which it is, by the number
+as_refused : (r : Result First Refusal) (num : ℕ) → (told_of r).refusal ≡ suc num → (e : Refusal) × (r ≡ Err e) × (refusal_number e ≡ suc num)
+as_refused (Ok f) num z = absurd (omega (arith, z))
+as_refused (Err e) num z = (e, refl, z)
+
+as_granted : (r : Result First Refusal) → (told_of r).refusal ≡ 0 → (f : First) × (r ≡ Ok f)
+as_granted (Ok f) z = (f, refl)
+as_granted (Err e) z = absurd (omega (arith, number_some e, z))
 
 -- ---- the windows up to a place are windows of the walk, and all of them where it has no place
 up_short : (p : ℕ → Bool) (walk : List ℕ) → length (up_to_place p walk) ≤ length walk
@@ -117,21 +132,28 @@ reaches p s hit least (next {a = a} {l = l} h r) m =
     (Memᴰ.cases_cons m)
 
 -- ---- the answer r of a call
-module _ (delta gamma : ℕ) (x y : List ℕ) (r : First)
+module _ (delta gamma : ℕ) (x y : List ℕ) (r : Result First Refusal)
     (a : told_of r ≡ first_answer (search_refusal delta gamma x y) (sought_of delta gamma x y) (last_walk_of delta gamma x y)) where
-  -- refused: the searchers' number, nowhere, and no window
-  pub refused_nowhere : (num : ℕ) → search_refusal delta gamma x y ≡ suc num → r ≡ record { refusal = suc num; spot = Nowhere; tried = 0 }
-  unfolding first_answer number_of value_of
-  refused_nowhere num e = told_only r (record { refusal = suc num; spot = Nowhere; tried = 0 }) (rw e at a)
+  -- refused: by the refusal that has the searchers' number; nowhere, and no window
+  pub refused_nowhere : (num : ℕ) → search_refusal delta gamma x y ≡ suc num
+      → (told_of r ≡ record { refusal = suc num; found = 0; place = 0; tried = 0 }) × ((e : Refusal) × (r ≡ Err e) × (refusal_number e ≡ suc num))
+  unfolding first_answer
+  refused_nowhere num e = let q = rw e at a in (q, as_refused r num (ap (λ (k : Flat). k.refusal) q))
+
+  refused_none : (num : ℕ) → search_refusal delta gamma x y ≡ suc num → place_of r ≡ None
+  refused_none num e = ap place_of (refused_nowhere num e).1.1
+
+  refused_tried : (num : ℕ) → search_refusal delta gamma x y ≡ suc num → tried_of r ≡ 0
+  refused_tried num e = ap tried_of (refused_nowhere num e).1.1
 
   -- a place is told only where the call is not refused
-  at_accepted : (s : ℕ) → r.spot ≡ At s → Accepted delta gamma x y
+  at_accepted : (s : ℕ) → place_of r ≡ Some s → Accepted delta gamma x y
   at_accepted s e = by_number (search_refusal delta gamma x y) refl
     where
       by_number : (num : ℕ) → search_refusal delta gamma x y ≡ num → Accepted delta gamma x y
       by_number zero n = accepted delta gamma x y n
       by_number (suc num) n =
-          absurd (let q : At s ≡ Nowhere = sym e ∙ ap (λ (f : First). f.spot) (refused_nowhere num n) in omega (arith, ap number_of q, number_nowhere, number_at s))
+          absurd (let q : Some s ≡ None = sym e ∙ refused_none num n in omega (arith, ap number_of q, number_nowhere, number_at s))
 
   -- accepted: 0, the number and the value of the first place, and the windows tried
   module _ (ok : Accepted delta gamma x y) where
@@ -145,35 +167,39 @@ module _ (delta gamma : ℕ) (x y : List ℕ) (r : First)
     unfolding first_answer
     granted = rw ((none_exactly delta gamma x y).1 ok, sought_places delta gamma x y) at a
 
-    number_is : number_of r.spot ≡ min 1 (length (places delta gamma x y))
+    number_is : number_of (place_of r) ≡ min 1 (length (places delta gamma x y))
     number_is = ap (λ (f : Flat). f.found) granted
 
-    value_is : value_of r.spot ≡ get_or (places delta gamma x y) 0 0
+    value_is : value_of (place_of r) ≡ get_or (places delta gamma x y) 0 0
     value_is = ap (λ (f : Flat). f.place) granted
 
+    -- not refused: an answer
+    pub granted_first : (f : First) × (r ≡ Ok f)
+    granted_first = as_granted r (ap (λ (f : Flat). f.refusal) granted)
+
     -- "none exactly when the total is 0"
-    pub nowhere_exactly : (r.spot ≡ Nowhere) ↔ (length (places delta gamma x y) ≡ 0)
+    pub nowhere_exactly : (place_of r ≡ None) ↔ (length (places delta gamma x y) ≡ 0)
     nowhere_exactly = (
       λ e. omega (arith, number_is, ap number_of e, number_nowhere),
-      λ z. spot_only r.spot Nowhere (omega (arith, number_is, number_nowhere)) (value_is ∙ front_none (places delta gamma x y) z ∙ sym value_nowhere),
+      λ z. spot_only (place_of r) None (omega (arith, number_is, number_nowhere)) (value_is ∙ front_none (places delta gamma x y) z ∙ sym value_nowhere),
     )
 
     -- "the first entry of the full list"
-    pub at_exactly : (s : ℕ) → (r.spot ≡ At s) ↔ ((1 ≤ length (places delta gamma x y)) × (get_or (places delta gamma x y) 0 0 ≡ s))
+    pub at_exactly : (s : ℕ) → (place_of r ≡ Some s) ↔ ((1 ≤ length (places delta gamma x y)) × (get_or (places delta gamma x y) 0 0 ≡ s))
     at_exactly s = (
       λ e. (omega (arith, number_is, ap number_of e, number_at s), sym value_is ∙ ap value_of e ∙ value_at s),
-      λ h. spot_only r.spot (At s) (omega (arith, number_is, h.0, number_at s)) (value_is ∙ h.1 ∙ sym (value_at s)),
+      λ h. spot_only (place_of r) (Some s) (omega (arith, number_is, h.0, number_at s)) (value_is ∙ h.1 ∙ sym (value_at s)),
     )
 
     -- nowhere: no window is a place, and the whole walk was tried
-    pub nowhere_no_place : r.spot ≡ Nowhere → (t : ℕ) → Place delta gamma x y t → ⊥
+    pub nowhere_no_place : place_of r ≡ None → (t : ℕ) → Place delta gamma x y t → ⊥
     nowhere_no_place e t p = omega (arith, nowhere_exactly.0 e, in_some (place_in delta gamma x y t p))
       where
         in_some : {t : ℕ} {l : List ℕ} → Memᴰ t l → 1 ≤ length l
         in_some {l = []} m = absurd (Memᴰ.not-nil m)
         in_some {l = s ∷ l} m = omega arith
 
-    pub nowhere_whole : r.spot ≡ Nowhere → r.tried ≡ length (last_walk_of delta gamma x y)
+    pub nowhere_whole : place_of r ≡ None → tried_of r ≡ length (last_walk_of delta gamma x y)
     nowhere_whole e =
         ap (λ (f : Flat). f.tried) granted
         ∙ ap length
@@ -187,11 +213,11 @@ module _ (delta gamma : ℕ) (x y : List ℕ) (r : First)
       total_is = (answer_done num _ tried entry q final b z).total ∙ ap length (sought_places delta gamma x y)
 
       -- none exactly when its total is 0
-      pub nowhere_total : (r.spot ≡ Nowhere) ↔ (q.total ≡ 0)
+      pub nowhere_total : (place_of r ≡ None) ↔ (q.total ≡ 0)
       nowhere_total = (λ e. total_is ∙ nowhere_exactly.0 e, λ n. nowhere_exactly.1 (sym total_is ∙ n))
 
   -- a place is told
-  module _ (s : ℕ) (e : r.spot ≡ At s) where
+  module _ (s : ℕ) (e : place_of r ≡ Some s) where
     ok_at : Accepted delta gamma x y
     ok_at = at_accepted s e
 
@@ -214,7 +240,7 @@ module _ (delta gamma : ℕ) (x y : List ℕ) (r : First)
         ∙ overlay_first (places delta gamma x y) entry.list ((at_exactly ok_at s).0 e).0 room ∙ first_is
 
     -- "up to and including that place": it is the last window of the walk that was tried
-    pub at_tried : UpTo (is_place delta gamma x y) (last_walk_of delta gamma x y) s r.tried
+    pub at_tried : UpTo (is_place delta gamma x y) (last_walk_of delta gamma x y) s (tried_of r)
     at_tried =
         rw (ap (λ (f : Flat). f.tried) (granted ok_at))
         (reaches (is_place delta gamma x y) s (place_test delta gamma x y s at_place) (λ t h. at_least t (test_place delta gamma x y t h))
@@ -222,8 +248,8 @@ module _ (delta gamma : ℕ) (x y : List ℕ) (r : First)
 
   -- beside last's own answer: never more windows, and as many where there is no place
   module _ (entry final : Lent) (q : Search) (b : Answers delta gamma x y (length (last_walk_of delta gamma x y)) entry q final) where
-    by_number : (C : Type 0) → ((ok : Accepted delta gamma x y) → r.tried ≡ length (up_to_place (is_place delta gamma x y) (last_walk_of delta gamma x y))
-        → q.tried ≡ length (last_walk_of delta gamma x y) → C) → (r.tried ≡ 0 → q.tried ≡ 0 → C) → C
+    by_number : (C : Type 0) → ((ok : Accepted delta gamma x y) → tried_of r ≡ length (up_to_place (is_place delta gamma x y) (last_walk_of delta gamma x y))
+        → q.tried ≡ length (last_walk_of delta gamma x y) → C) → (tried_of r ≡ 0 → q.tried ≡ 0 → C) → C
     by_number C f g = go (search_refusal delta gamma x y) refl
       where
         go : (num : ℕ) → search_refusal delta gamma x y ≡ num → C
@@ -231,12 +257,12 @@ module _ (delta gamma : ℕ) (x y : List ℕ) (r : First)
             let ok = accepted delta gamma x y e in
             f ok (ap (λ (k : Flat). k.tried) (granted ok)) (ap (λ (k : Search). k.tried) (answer_accepted delta gamma x y _ entry final q b ok).0)
         go (suc num) e =
-            g (ap (λ (k : First). k.tried) (refused_nowhere num e)) (ap (λ (k : Search). k.tried) (answer_refused delta gamma x y _ entry final q b num e).0)
+            g (refused_tried num e) (ap (λ (k : Search). k.tried) (answer_refused delta gamma x y _ entry final q b num e).0)
 
-    pub tried_most : r.tried ≤ q.tried
+    pub tried_most : tried_of r ≤ q.tried
     tried_most =
-        by_number (r.tried ≤ q.tried) (λ ok m n. omega (arith, m, n, up_short (is_place delta gamma x y) (last_walk_of delta gamma x y)))
+        by_number (tried_of r ≤ q.tried) (λ ok m n. omega (arith, m, n, up_short (is_place delta gamma x y) (last_walk_of delta gamma x y)))
         (λ m n. omega (arith, m, n))
 
-    pub tried_all : r.spot ≡ Nowhere → r.tried ≡ q.tried
-    tried_all e = by_number (r.tried ≡ q.tried) (λ ok m n. nowhere_whole ok e ∙ sym n) (λ m n. m ∙ sym n)
+    pub tried_all : place_of r ≡ None → tried_of r ≡ q.tried
+    tried_all e = by_number (tried_of r ≡ q.tried) (λ ok m n. nowhere_whole ok e ∙ sym n) (λ m n. m ∙ sym n)

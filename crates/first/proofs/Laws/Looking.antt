@@ -20,7 +20,13 @@ use Rattle.last.specs.Walk.{last_walk_of, walk_in}
 use Rattle.last.specs.declared.walk.Prepared.{Prepared}
 use Rattle.last.proofs.Laws.Ordinary.{Going}
 use Rattle.first.specs.First.{number_of, value_of, told_of, up_to_place, first_answer}
-use Rattle.first.specs.declared.Spot.TheVariants.{Nowhere, At}
+use Rattle.std.specs.Prelude.{None, Some, Result, Ok, Err}
+use Rattle.std.specs.Result.{IsErrAnd}
+use Rattle.std.proofs.lemmas.Result.{err_from_is_err_and}
+use Rattle.fit.specs.Refused.{number_of as refusal_number}
+use Rattle.fit.specs.declared.refusal.Refusal.{Refusal}
+use Rattle.fit.proofs.Laws.Refused.{number_some}
+use Rattle.first.specs.declared.First.{First}
 use Rattle.first.specs.declared.Flat.{Flat}
 
 -- no window of a list passes p
@@ -97,7 +103,7 @@ looked_on p s bound bound' tried is {rest' = rest'} f e told miss h = record {
 module _ (t : Sought) (walk : List ℕ) (finds : those t.place walk ≡ all t) where
   pub first_at : (s bound tried : ℕ) (is : Bool) {rest rest' : List ℕ} → Looked t.place walk rest bound tried → rest ≡ s ∷ rest'
       → is ≡ t.place s → is ≡ true
-      → told_of (record { refusal = 0; spot = At s; tried = tried + 1 }) ≡ first_answer 0 t walk
+      → told_of (Ok (record { place = Some s; tried = tried + 1 })) ≡ first_answer 0 t walk
   unfolding first_answer number_of value_of
   first_at s bound tried is {rest' = rest'} f e told taken =
       let p = t.place in
@@ -111,7 +117,7 @@ module _ (t : Sought) (walk : List ℕ) (finds : those t.place walk ≡ all t) w
       λ i. record { refusal = 0; found = found i; place = place i; tried = count i }
 
   pub first_none : (bound tried : ℕ) {rest : List ℕ} → Looked t.place walk rest bound tried → rest ≡ []
-      → told_of (record { refusal = 0; spot = Nowhere; tried = tried }) ≡ first_answer 0 t walk
+      → told_of (Ok (record { place = None; tried = tried })) ≡ first_answer 0 t walk
   unfolding first_answer number_of value_of
   first_none bound tried f e =
       let p = t.place in
@@ -121,17 +127,19 @@ module _ (t : Sought) (walk : List ℕ) (finds : those t.place walk ≡ all t) w
       rw (listed, windows, f.count)
 
 -- refused
-refused_by : (num : ℕ) (t : Sought) (walk : List ℕ) → (num ≡ 0 → ⊥) → told_of (record { refusal = num; spot = Nowhere; tried = 0 }) ≡ first_answer num t walk
+pub first_refused : (num : ℕ) (t : Sought) (walk : List ℕ) (e : Refusal) → refusal_number e ≡ num → told_of (Err e) ≡ first_answer num t walk
 unfolding first_answer number_of value_of
-refused_by zero t walk h = absurd (h refl)
-refused_by (suc num) t walk h = refl
+first_refused zero t walk e h = absurd (omega (arith, number_some e, h))
+first_refused (suc num) t walk e h = rw h
 
-pub first_refused : (num k : ℕ) (t : Sought) (walk : List ℕ) → k ≡ num → (k ≡ 0 → ⊥) → told_of (record { refusal = k; spot = Nowhere; tried = 0 }) ≡ first_answer num t walk
-first_refused num k t walk e h = rw e (refused_by num t walk (λ z. h (e ∙ z)))
+-- a refusal that is handed on
+pub handed_first : (num : ℕ) (t : Sought) (walk : List ℕ) (r : Result First Refusal) (e : Refusal) → IsErrAnd r (λ x. x ≡ e) → refusal_number e ≡ num
+    → told_of r ≡ first_answer num t walk
+handed_first num t walk r e q h = let p = err_from_is_err_and r q in rw (p.1, p.2) (first_refused num t walk e h)
 
 -- what it answers over the spans is its answer
 pub going_first : (delta gamma : ℕ) (x y : List ℕ) {p : Prepared} {told : Flat} → Going delta gamma x y p
-    → told ≡ first_answer 0 (sought_by (rule_in p.spans) (length x) gamma y) (walk_in p.spans (length x) y)
+    → told ≡ first_answer 0 (sought_by (rule_in p.spans.rows) p.spans.m gamma y) (walk_in p.spans.rows p.spans.m y)
     → told ≡ first_answer (search_refusal delta gamma x y) (sought_of delta gamma x y) (last_walk_of delta gamma x y)
 going_first delta gamma x y {p} at e =
-    rw ((none_exactly delta gamma x y).1 at.ok, ← at.walk, ← compiled_sought delta gamma x y p.spans at.made at.ok) e
+    rw ((none_exactly delta gamma x y).1 at.ok, ← compiled_sought delta gamma x y p.spans.rows at.made at.ok) (rw at.points at (rw at.walk at e))

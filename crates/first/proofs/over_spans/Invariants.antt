@@ -10,8 +10,8 @@ use Rattle.first.proofs.over_spans.Given as goal
 
 abbrev pub invariant-loop-q : goal.invariant-loop-q
 invariant-loop-q l =
-    Stands l.spans l.table l.seen l.m l.gamma l.recording l.q
-    × Looked (is_place_by (rule_in l.spans) l.m l.gamma l.recording) (walk_in l.spans l.m l.recording) (left_in l.spans l.m l.recording l.q) (l.q - (l.m - 1)) l.tried
+    Stands l.prepared.spans.rows l.prepared.table l.prepared.seen l.prepared.spans.m l.gamma l.recording l.q
+    × Looked (is_place_by (rule_in l.prepared.spans.rows) l.prepared.spans.m l.gamma l.recording) (walk_in l.prepared.spans.rows l.prepared.spans.m l.recording) (left_in l.prepared.spans.rows l.prepared.spans.m l.recording l.q) (l.q - (l.prepared.spans.m - 1)) l.tried
 
 abbrev pub decreases-loop-q : goal.decreases-loop-q
 decreases-loop-q l = length l.recording - l.q

@@ -6,8 +6,8 @@ use Prim.Native.Nat.{ℕ, ◌+◌, ◌≤◌, ◌<◌}
 use native.Mathlib.Omega.{arith}
 use lib.ListN.{length, set, length-set, length-append, length-map}
 use Rattle.fit.specs.Listing.{overlay, Rising, those}
-use Rattle.fit.specs.Answer.{Sought, Lent, laid, begun, tally, outcome, filled, Answer, noted, listed, Tried}
-use Rattle.fit.specs.declared.answer.Search.{Search}
+use Rattle.fit.specs.Answer.{Sought, Lent, laid, nothing, found_in, told, outcome, filled, Answer, noted, listed, Tried}
+use Rattle.fit.specs.declared.answer.Found.{Found}
 use Rattle.fit.proofs.Laws.Listings.{overlay_none, overlay_more}
 use Rattle.fit.proofs.Laws.Sums.{least_none, least_more}
 use Rattle.fit.proofs.Laws.Risings.{finds_all}
@@ -46,14 +46,14 @@ lay_one t ps entry s =
     rw (map-append t.sum ps (s ∷ [])) (rw (length-map ps t.sum) at (overlay_more (map t.sum ps) entry.sums (t.sum s))) in
     λ i. record { list = overlay_more ps entry.list s i; sums = sums i }
 
-tally_none : (t : Sought) → begun 0 ≡ tally t [] 0
-tally_none t = λ i. record { refusal = 0; total = 0; tried = 0; least = sym least_none i }
+tally_none : (t : Sought) → nothing ≡ found_in t [] 0
+tally_none t = λ i. record { total = 0; tried = 0; least = sym least_none i }
 
-tally_hit : (t : Sought) (ps : List ℕ) (s n : ℕ) → noted true (t.sum s) (tally t ps n) ≡ tally t (ps ++ (s ∷ [])) (n + 1)
+tally_hit : (t : Sought) (ps : List ℕ) (s n : ℕ) → noted true (t.sum s) (found_in t ps n) ≡ found_in t (ps ++ (s ∷ [])) (n + 1)
 unfolding noted
 tally_hit t ps s n = rw (length-append, map-append t.sum ps (s ∷ []), least_more (map t.sum ps) (t.sum s), length-map ps t.sum)
 
-tally_miss : (t : Sought) (ps : List ℕ) (sum n : ℕ) → noted false sum (tally t ps n) ≡ tally t ps (n + 1)
+tally_miss : (t : Sought) (ps : List ℕ) (sum n : ℕ) → noted false sum (found_in t ps n) ≡ found_in t ps (n + 1)
 unfolding noted
 tally_miss t ps sum n = refl
 
@@ -69,33 +69,33 @@ listed_long true sum s at l = (length-set l.list at s, length-set l.sums at sum)
 listed_long false sum s at l = (refl, refl)
 
 -- the windows of the walk before `rest` were tried, `bound` of them at most: the counts r and what was lent tell the places among them
-pub record Along (t : Sought) (walk rest : List ℕ) (bound : ℕ) (entry held : Lent) (r : Search) : Type 0 where
+pub record Along (t : Sought) (walk rest : List ℕ) (bound : ℕ) (entry held : Lent) (r : Found) : Type 0 where
   pub done : List ℕ
   pub split : done ++ rest ≡ walk
   pub lists : held ≡ laid t (those t.place done) entry
-  pub counts : r ≡ tally t (those t.place done) (length done)
+  pub counts : r ≡ found_in t (those t.place done) (length done)
   pub order : r.total ≤ r.tried
   pub room : r.tried ≤ bound
   pub long : length held.list ≡ length entry.list
   pub sums_long : length held.sums ≡ length entry.sums
 
-begun_counts : (bound : ℕ) {r : Search} → r ≡ begun 0 → (r.total ≤ r.tried) × (r.tried ≤ bound)
-begun_counts bound e = rw e (omega arith, omega arith)
+nothing_counts : (bound : ℕ) {r : Found} → r ≡ nothing → (r.total ≤ r.tried) × (r.tried ≤ bound)
+nothing_counts bound e = rw e (omega arith, omega arith)
 
-pub along_start : (t : Sought) (walk : List ℕ) (bound : ℕ) (entry : Lent) {r : Search} → r ≡ begun 0 → Along t walk walk bound entry entry r
+pub along_start : (t : Sought) (walk : List ℕ) (bound : ℕ) (entry : Lent) {r : Found} → r ≡ nothing → Along t walk walk bound entry entry r
 unfolding those
 along_start t walk bound entry e = record {
   done = [];
   split = refl;
   lists = lay_none t entry;
   counts = e ∙ tally_none t;
-  order = (begun_counts bound e).0;
-  room = (begun_counts bound e).1;
+  order = (nothing_counts bound e).0;
+  room = (nothing_counts bound e).1;
   long = refl;
   sums_long = refl;
 }
 
-along_step : (t : Sought) (b : Bool) (s bound bound' : ℕ) {walk rest : List ℕ} {entry held : Lent} {r : Search}
+along_step : (t : Sought) (b : Bool) (s bound bound' : ℕ) {walk rest : List ℕ} {entry held : Lent} {r : Found}
     → Along t walk (s ∷ rest) bound entry held r → bound < bound' → t.place s ≡ b
     → Along t walk rest bound' entry (listed b (t.sum s) s r.total held) (noted b (t.sum s) r)
 along_step t true s bound bound' {rest = rest} {entry = entry} {held = held} {r = r} f h e = record {
@@ -121,16 +121,16 @@ along_step t false s bound bound' {rest = rest} {held = held} {r = r} f h e = re
 }
 
 -- after the walk's next window was tried
-pub along_tried : (t : Sought) (s bound bound' : ℕ) {walk rest : List ℕ} {entry held held' : Lent} {r r' : Search}
+pub along_tried : (t : Sought) (s bound bound' : ℕ) {walk rest : List ℕ} {entry held held' : Lent} {r r' : Found}
     → Along t walk (s ∷ rest) bound entry held r → Tried t s r held r' held' → bound < bound' → Along t walk rest bound' entry held' r'
 along_tried t s bound bound' f n h = rw (n.counts, n.lists) (along_step t (t.place s) s bound bound' f h refl)
 
 -- what is left may be written otherwise, and a step that tries nothing may move the bound
-pub along_same : {t : Sought} {walk rest rest' : List ℕ} {bound : ℕ} {entry held : Lent} {r : Search} → rest ≡ rest'
+pub along_same : {t : Sought} {walk rest rest' : List ℕ} {bound : ℕ} {entry held : Lent} {r : Found} → rest ≡ rest'
     → Along t walk rest bound entry held r → Along t walk rest' bound entry held r
 along_same e f = rw e at f
 
-pub along_on : {t : Sought} {walk rest rest' : List ℕ} {bound bound' : ℕ} {entry held : Lent} {r : Search} → rest ≡ rest' → bound ≤ bound'
+pub along_on : {t : Sought} {walk rest rest' : List ℕ} {bound bound' : ℕ} {entry held : Lent} {r : Found} → rest ≡ rest' → bound ≤ bound'
     → Along t walk rest bound entry held r → Along t walk rest' bound' entry held r
 along_on {t} {walk} {rest} {bound' = bound'} {entry} {held} {r} e h f =
     let g : Along t walk rest bound' entry held r =
@@ -138,11 +138,11 @@ along_on {t} {walk} {rest} {bound' = bound'} {entry} {held} {r} e h f =
     rw e at g
 
 -- the end of a walk that rises and has all that is sought among its windows
-pub along_end : (t : Sought) (walk : List ℕ) (bound tried : ℕ) {entry held : Lent} {r : Search}
+pub along_end : (t : Sought) (walk : List ℕ) (bound tried : ℕ) {entry held : Lent} {r : Found}
     → ((s : ℕ) → t.place s ≡ true → s < t.count) → length walk ≡ tried → Rising 0 walk → ((s : ℕ) → t.place s ≡ true → Memᴰ s walk)
-    → Along t walk [] bound entry held r → Answer 0 t tried entry r held
+    → Along t walk [] bound entry held r → Answer 0 t tried entry (told r) held
 unfolding outcome filled
 along_end t walk bound tried below long rises has f =
     let e : f.done ≡ walk = sym (append-nil f.done) ∙ f.split in
     let same = finds_all t.place t.count walk below rises has in
-    record { result = rw (← long, ← same, ← e) f.counts; lists = rw (← same, ← e) f.lists }
+    record { result = rw (← long, ← same, ← e) (ap (λ (f : Found). told f) f.counts); lists = rw (← same, ← e) f.lists }

@@ -10,7 +10,10 @@ use Rattle.fit.specs.Place.{rule_of, sum_diff, is_place, windows}
 use Rattle.fit.specs.Refusal.{search_refusal, Accepted}
 use Rattle.fit.specs.Listing.{up_to, places, overlay}
 use Rattle.fit.specs.Sums.{least_of, lowered}
+use Rattle.std.specs.Option.{is_some, unwrap_or}
+use Rattle.std.specs.Bool.{then_some}
 use Rattle.fit.specs.Answer.{Sought, sought_by, sought_of, all, Lent, lent, laid, begun, tally, outcome, filled, Answer, Answers, noted, listed, Noted}
+use Rattle.fit.specs.declared.answer.Found.{Found}
 use Rattle.fit.specs.declared.answer.Search.{Search}
 use Rattle.fit.proofs.Laws.Listings.{up_short}
 use Rattle.fit.proofs.Laws.Sums.{sums_same}
@@ -22,7 +25,7 @@ pub begun_number : (num : ℕ) {r : Search} → r ≡ begun num → r.refusal �
 begun_number num e = ap (λ (r : Search). r.refusal) e
 
 -- it is refused
-refused_by : (num : ℕ) (t : Sought) (tried : ℕ) (entry : Lent) → (num ≡ 0 → ⊥) → Answer num t tried entry (begun num) entry
+pub refused_by : (num : ℕ) (t : Sought) (tried : ℕ) (entry : Lent) → (num ≡ 0 → ⊥) → Answer num t tried entry (begun num) entry
 unfolding outcome filled
 refused_by zero t tried entry h = absurd (h refl)
 refused_by (suc num) t tried entry h = record { result = refl; lists = refl }
@@ -158,42 +161,48 @@ no_second_answer delta gamma x y tried entry r r' l l' v v' a b =
     (same.0, lists.0, lists.1)
 
 -- ---- one window
-pub noted_hit : (hit : Bool) (sum s : ℕ) (before : Search) (entry : Lent) {least : ℕ} {list sums : List ℕ} → hit ≡ true
+pub noted_hit : (hit : Bool) (sum s : ℕ) (before : Found) (entry : Lent) {least : ℕ} {list sums : List ℕ} → hit ≡ true
     → least ≡ lowered before.total before.least sum → list ≡ set entry.list before.total s → sums ≡ set entry.sums before.total sum
-    → Noted hit sum s before entry (record { refusal = before.refusal; total = before.total + 1; tried = before.tried + 1; least = least }) (lent list sums)
+    → Noted hit sum s before entry (record { total = before.total + 1; tried = before.tried + 1; least = least }) (lent list sums)
 unfolding noted listed
 noted_hit hit sum s before entry e l f g = record { counts = rw (e, l); lists = rw (e, f, g) }
 
-pub noted_miss : (hit : Bool) (sum s : ℕ) (before : Search) (entry : Lent) → hit ≡ false
-    → Noted hit sum s before entry (record { refusal = before.refusal; total = before.total; tried = before.tried + 1; least = before.least }) entry
+pub noted_miss : (hit : Bool) (sum s : ℕ) (before : Found) (entry : Lent) → hit ≡ false
+    → Noted hit sum s before entry (record { total = before.total; tried = before.tried + 1; least = before.least }) entry
 unfolding noted listed
 noted_miss hit sum s before entry e = record { counts = rw e; lists = rw e }
 
 -- a window that was noted by a test's value was noted by the test; of a window that is no place the sum does not matter
-noted_sum : (hit : Bool) (sum sum' s : ℕ) (before : Search) (entry : Lent) {r : Search} {final : Lent} → (hit ≡ true → sum ≡ sum')
+noted_sum : (hit : Bool) (sum sum' s : ℕ) (before : Found) (entry : Lent) {r : Found} {final : Lent} → (hit ≡ true → sum ≡ sum')
     → Noted hit sum s before entry r final → Noted hit sum' s before entry r final
 unfolding noted listed
 noted_sum true sum sum' s before entry e h = rw (e refl) at h
 noted_sum false sum sum' s before entry e h = record { counts = h.counts; lists = h.lists }
 
-pub noted_as : (b b' : Bool) (sum sum' s : ℕ) (before : Search) (entry : Lent) {r : Search} {final : Lent}
+pub noted_as : (b b' : Bool) (sum sum' s : ℕ) (before : Found) (entry : Lent) {r : Found} {final : Lent}
     → b ≡ b' → (b' ≡ true → sum ≡ sum') → Noted b sum s before entry r final → Noted b' sum' s before entry r final
 noted_as b b' sum sum' s before entry e f h = noted_sum b' sum sum' s before entry f (rw e at h)
 
+-- a window is noted with its sum where it passes a test, and else as none
+pub noted_if : (b : Bool) (sum s : ℕ) (before : Found) (entry : Lent) {r : Found} {final : Lent}
+    → Noted (is_some (then_some b sum)) (unwrap_or (then_some b sum) 0) s before entry r final → Noted b sum s before entry r final
+noted_if true sum s before entry h = h
+noted_if false sum s before entry h = noted_sum false 0 sum s before entry (λ e. absurd (cc)) h
+
 -- no second result of a noted window
-pub no_second_note : (hit : Bool) (sum s : ℕ) (before : Search) (entry : Lent) (r r' : Search) (l l' v v' : List ℕ)
+pub no_second_note : (hit : Bool) (sum s : ℕ) (before : Found) (entry : Lent) (r r' : Found) (l l' v v' : List ℕ)
     → Noted hit sum s before entry r (lent l v) → Noted hit sum s before entry r' (lent l' v') → (r ≡ r') × (l ≡ l') × (v ≡ v')
 no_second_note hit sum s before entry r r' l l' v v' a b =
     let lists = both_lists (a.lists ∙ sym b.lists) in
     (a.counts ∙ sym b.counts, lists.0, lists.1)
 
 -- what one window adds to the counts
-pub tried_one : (b : Bool) (sum : ℕ) (r : Search) → (noted b sum r).tried ≡ r.tried + 1
+pub tried_one : (b : Bool) (sum : ℕ) (r : Found) → (noted b sum r).tried ≡ r.tried + 1
 unfolding noted
 tried_one true sum r = refl
 tried_one false sum r = refl
 
-pub order_one : (b : Bool) (sum : ℕ) (r : Search) → r.total ≤ r.tried → (noted b sum r).total ≤ (noted b sum r).tried
+pub order_one : (b : Bool) (sum : ℕ) (r : Found) → r.total ≤ r.tried → (noted b sum r).total ≤ (noted b sum r).tried
 unfolding noted
 order_one true sum r h = omega arith
 order_one false sum r h = omega arith

@@ -9,9 +9,9 @@ use native.Mathlib.Omega.{arith}
 use lib.ListN.{length}
 use Rattle.fit.specs.Listing.{those}
 use Rattle.fit.specs.Walk.{walk_by, every_window}
-use Rattle.fit.specs.Answer.{Sought, Lent, begun, Answer, Tried}
+use Rattle.fit.specs.Answer.{Sought, Lent, nothing, told, Answer, Tried}
 use Rattle.fit.specs.Trying.{TriedAll, missed, run}
-use Rattle.fit.specs.declared.answer.Search.{Search}
+use Rattle.fit.specs.declared.answer.Found.{Found}
 use Rattle.fit.proofs.Laws.Sums.{sums_same}
 use Rattle.fit.proofs.Laws.Risings.{in_those}
 use Rattle.fit.proofs.Laws.Steps.{every_start, every_step, every_end, every_rises, every_has, every_count}
@@ -38,19 +38,19 @@ run_parts s (suc k) (suc n) h =
     ap (λ (l : List ℕ). s ∷ l) (rw rest (rw next at (run_parts (s + 1) k n (omega arith))))
 
 -- ---- the windows below `end` are being tried one after the other, and those before s were
-pub running_start : (t : Sought) (s s' k end : ℕ) {entry : Lent} {before : Search} → s' ≡ s → end ≡ s + k → before.total ≤ before.tried → before.tried ≤ s
+pub running_start : (t : Sought) (s s' k end : ℕ) {entry : Lent} {before : Found} → s' ≡ s → end ≡ s + k → before.total ≤ before.tried → before.tried ≤ s
     → Trying t (run s k) (run s' (end - s')) s' entry entry before before
 running_start t s s' k end {entry} {before} z e o h =
     let all : end - s ≡ k = omega arith in
     rw (z, all) (trying_start t (run s k) s entry before o h)
 
 -- from the first window on
-pub running_begun : (t : Sought) (count : ℕ) {entry : Lent} {before : Search} → before ≡ begun 0 → Trying t (run 0 count) (run 0 (count - 0)) 0 entry entry before before
+pub running_begun : (t : Sought) (count : ℕ) {entry : Lent} {before : Found} → before ≡ nothing → Trying t (run 0 count) (run 0 (count - 0)) 0 entry entry before before
 running_begun t count e = rw e (running_start t 0 0 count count refl (omega arith) (omega arith) (omega arith))
 
-module _ (t : Sought) (s end : ℕ) {whole : List ℕ} {entry held : Lent} {before found : Search} (f : Trying t whole (run s (end - s)) s entry held before found) where
+module _ (t : Sought) (s end : ℕ) {whole : List ℕ} {entry held : Lent} {before found : Found} (f : Trying t whole (run s (end - s)) s entry held before found) where
   -- k of them at once
-  pub running_all : (k s' : ℕ) {held' : Lent} {r : Search} → s' ≡ s + k → s' ≤ end → TriedAll t (run s k) found held r held'
+  pub running_all : (k s' : ℕ) {held' : Lent} {r : Found} → s' ≡ s + k → s' ≤ end → TriedAll t (run s k) found held r held'
       → Trying t whole (run s' (end - s')) s' entry held' before r
   running_all k s' e h a =
       let rest : end - s - k ≡ end - s' = omega arith in
@@ -58,7 +58,7 @@ module _ (t : Sought) (s end : ℕ) {whole : List ℕ} {entry held : Lent} {befo
       trying_all t (run s k) s s' (trying_pass t s s f parts (omega arith)) a (omega (arith, run_length s k))
 
   -- or one
-  pub running_one : (s' : ℕ) {held' : Lent} {r : Search} → s' ≡ s + 1 → s' ≤ end → Tried t s found held r held'
+  pub running_one : (s' : ℕ) {held' : Lent} {r : Found} → s' ≡ s + 1 → s' ≤ end → Tried t s found held r held'
       → Trying t whole (run s' (end - s')) s' entry held' before r
   unfolding run
   running_one s' {held'} {r} e h a = running_all 1 s' e h (tried_first t s [] a (tried_none t r held'))
@@ -78,8 +78,8 @@ every_run : (count : ℕ) → every_window count ≡ run 0 count ++ []
 every_run count = every_start count ∙ every_from count count 0 (omega arith) ∙ sym (append-nil (run 0 count))
 
 -- to have tried them all is to have the answer
-pub every_tried : (t : Sought) {entry final : Lent} {before r : Search} → ((s : ℕ) → t.place s ≡ true → s < t.count) → before ≡ begun 0
-    → TriedAll t (run 0 t.count) before entry r final → Answer 0 t t.count entry r final
+pub every_tried : (t : Sought) {entry final : Lent} {before r : Found} → ((s : ℕ) → t.place s ≡ true → s < t.count) → before ≡ nothing
+    → TriedAll t (run 0 t.count) before entry r final → Answer 0 t t.count entry (told r) final
 every_tried t {entry} below e a =
     along_end t (every_window t.count) (0 + length (run 0 t.count)) t.count below (every_count t.count) (every_rises t.count)
     (λ s p. every_has t.count s (below s p))
@@ -102,7 +102,7 @@ in_run s (suc k) m =
     (λ n. let at = in_run (s + 1) k n in (suc at.0, omega (arith, at.1), omega (arith, at.2)))
     (Memᴰ.cases_cons m)
 
-pub run_same : (t t' : Sought) (s k : ℕ) {before r : Search} {entry final : Lent} → ((j : ℕ) → j < k → t.place (s + j) ≡ t'.place (s + j))
+pub run_same : (t t' : Sought) (s k : ℕ) {before r : Found} {entry final : Lent} → ((j : ℕ) → j < k → t.place (s + j) ≡ t'.place (s + j))
     → ((j : ℕ) → j < k → t.place (s + j) ≡ true → t.sum (s + j) ≡ t'.sum (s + j))
     → TriedAll t (run s k) before entry r final → TriedAll t' (run s k) before entry r final
 run_same t t' s k places sums =
@@ -120,6 +120,6 @@ unfolding those
 those_none [] = refl
 those_none (s ∷ ws) = those_none ws
 
-pub run_no_place : (t : Sought) (s k : ℕ) {before r : Search} {entry : Lent} → ((j : ℕ) → j < k → t.place (s + j) ≡ false) → r ≡ missed k before
+pub run_no_place : (t : Sought) (s k : ℕ) {before r : Found} {entry : Lent} → ((j : ℕ) → j < k → t.place (s + j) ≡ false) → r ≡ missed k before
     → TriedAll t (run s k) before entry r entry
 run_no_place t s k h e = none_tried t (run s k) k (those_same t.place (λ s. false) s k h ∙ those_none (run s k)) (run_length s k) e

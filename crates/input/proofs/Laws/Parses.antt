@@ -3,15 +3,21 @@ use mathlib.Core.Path.{◌≡◌, refl, sym, ap, ◌∙◌}
 use mathlib.Core.Bool.{Bool, true, ◌||◌}
 use mathlib.Core.Logic.{◌⊎◌, inl, inr, ⊎_elim, ◌↔◌}
 use mathlib.Core.List.{List}
-use Prim.Native.Nat.{ℕ, zero, suc, ◌+◌, ◌-◌, ◌*◌, ◌≤◌, ◌<◌}
+use Prim.Native.Nat.{ℕ, zero, suc, ◌+◌, ◌-◌, ◌≤◌, ◌<◌}
 use native.Mathlib.Omega.{arith}
-use lib.ListN.{length, get_or, take, drop, length-drop}
-use lib.Seq.{take_all}
+use lib.ListN.{length, take, drop, length-drop}
+use lib.Seq.{take_all, drop-drop}
 use lib.Dec.{ltb}
 use borrow.Author.Tests.{lt-ltb, ltb-true}
 use Rattle.fit.proofs.Laws.Bools.{or_cases, or_left, or_right, is_false, le_or_lt}
-use Rattle.input.specs.Inputs.{delta_in, gamma_in, m_in, max_input, of_input, BadInput, GoodInput, front_by, front_of, points_by, points_in, recording_by, recording_in}
-use Rattle.input.specs.declared.Front.{Front}
+use Rattle.std.specs.Prelude.{Result, Ok, Err}
+use Rattle.std.specs.List.{IsSplitAt}
+use Rattle.input.specs.declared.Input.{Input}
+use Rattle.fit.specs.declared.refusal.Refusal.TheVariants as refusals
+use Rattle.fit.specs.declared.refusal.Refusal.{Refusal}
+use Rattle.fit.specs.Refused.{number_of}
+use Rattle.input.specs.Told.{front_told, points_told, recording_told, Parsed}
+use Rattle.input.specs.Inputs.{Front, delta_in, gamma_in, m_in, max_input, of_input, BadInput, GoodInput, front_by, front_of, points_by, points_in, recording_by, recording_in}
 
 module _ (input : List ℕ) where
   -- the test, by its three parts
@@ -63,61 +69,69 @@ module _ (input : List ℕ) where
   pub accepted_input : of_input input ≡ 0 → GoodInput input
   accepted_input e = ⊎_elim (λ b. absurd (let z : ◌≡◌ {A = ℕ} 0 5 = sym e ∙ input_bad b in omega arith)) (λ g. g) bad_or_good
 
-  -- ---- the numbers in front
-  pub front_refused : BadInput input → front_of input ≡ record { refusal = 5; delta = 0; gamma = 0; m = 0 }
-  unfolding front_by
-  front_refused b = rw (input_bad b)
+  -- ---- what the parse answers
+  pub refused_parse : BadInput input → Parsed input (Err refusals.BadInput)
+  unfolding number_of front_by points_by recording_by
+  refused_parse b = record {
+    front = rw (input_bad b);
+    points = rw (input_bad b);
+    recording = rw (input_bad b);
+  }
 
-  pub front_read : GoodInput input → front_of input ≡ record { refusal = 0; delta = delta_in input; gamma = gamma_in input; m = m_in input }
-  unfolding front_by
-  front_read g = rw (input_good g)
+  abbrev behind_four : List ℕ
+  behind_four = take (length input - 4) (drop 4 input)
 
-  -- as the bytes are read
-  pub front_as_read : (delta high low m : ℕ) → GoodInput input → delta ≡ get_or input 0 0 → high ≡ get_or input 1 0 → low ≡ get_or input 2 0 → m ≡ get_or input 3 0
-      → record { refusal = 0; delta = delta; gamma = high * 256 + low; m = m } ≡ front_of input
-  front_as_read delta high low m g a b c d = rw (a, b, c, d) (sym (front_read g))
+  all_behind : behind_four ≡ drop 4 input
+  all_behind = take_all (length input - 4) (drop 4 input) (omega (arith, length-drop 4 input))
 
-  number_of : (num : ℕ) → (front_by num input).refusal ≡ num
-  unfolding front_by
-  number_of zero = refl
-  number_of (suc num) = refl
+  pub short_rest : 4 ≤ length input → length behind_four < m_in input → length input < 4 + m_in input
+  short_rest four h = omega (arith, four, h, ap length all_behind, length-drop 4 input)
 
-  pub front_number : {r : Front} → r ≡ front_of input → r.refusal ≡ of_input input
-  front_number e = ap (λ (f : Front). f.refusal) e ∙ number_of (of_input input)
-
-  -- ---- an input whose front is read is good, and its parts lie inside
-  module _ {r : Front} (e : r ≡ front_of input) (none : r.refusal ≡ 0) where
-    pub front_good : GoodInput input
-    front_good = accepted_input (sym (front_number e) ∙ none)
-
-    pub front_m : r.m ≡ m_in input
-    front_m = ap (λ (f : Front). f.m) (e ∙ front_read front_good)
-
-    pub points_are : points_in input ≡ take (m_in input) (drop 4 input)
-    unfolding points_by
-    points_are = rw (input_good front_good)
-
-    pub recording_is : (k : ℕ) → k ≡ 4 + m_in input → take (length input - k) (drop k input) ≡ recording_in input
-    unfolding recording_by
-    recording_is k h = rw (input_good front_good, h) (take_all (length input - (4 + m_in input)) (drop (4 + m_in input) input) (omega (arith, length-drop (4 + m_in input) input)))
+  pub accepted_parse : 4 ≤ length input → length input ≤ max_input → (i : Input) → IsSplitAt behind_four (m_in input) i.points.now i.recording.now
+      → i.delta ≡ delta_in input → i.gamma ≡ gamma_in input → Parsed input (Ok i)
+  unfolding front_by points_by recording_by
+  accepted_parse four short i s a b =
+      let long : 4 + m_in input ≤ length input = omega (arith, four, s.0, ap length all_behind, length-drop 4 input) in
+      let good : of_input input ≡ 0 = input_good (record { long = long; short = short }) in
+      record {
+        front = rw (good, a, b, s.3);
+        points = rw good (s.1 ∙ ap (take (m_in input)) all_behind);
+        recording = rw good (s.2 ∙ ap (drop (m_in input)) all_behind ∙ drop-drop (m_in input) 4 input);
+      }
 
   -- the recording is no longer than an input may be
   pub recording_short : of_input input ≡ 0 → length (recording_in input) ≤ max_input
   unfolding recording_by
   recording_short none = rw none (omega (arith, (accepted_input none).short, length-drop (4 + m_in input) input))
 
-  module _ {r : Front} (e : r ≡ front_of input) (some : r.refusal ≡ 0 → ⊥) where
-    nothing_by : (f : ℕ → List ℕ) → ((num : ℕ) → f (suc num) ≡ take 0 input) → (num : ℕ) → (num ≡ 0 → ⊥) → f num ≡ take 0 input
-    nothing_by f g zero h = absurd (h refl)
-    nothing_by f g (suc num) h = g num
+  -- ---- what a parse tells of the input
+  front_number : (front_of input).refusal ≡ of_input input
+  unfolding front_by
+  front_number = by_number (of_input input)
+    where
+      by_number : (num : ℕ) → (front_by num input).refusal ≡ num
+      by_number zero = refl
+      by_number (suc num) = refl
 
-    refused_input : of_input input ≡ 0 → ⊥
-    refused_input z = some (front_number e ∙ z)
+  front_read : of_input input ≡ 0 → front_of input ≡ record { refusal = 0; delta = delta_in input; gamma = gamma_in input; m = m_in input }
+  unfolding front_by
+  front_read none = rw none
 
-    pub no_points_lem : points_in input ≡ take 0 input
-    unfolding points_by
-    no_points_lem = nothing_by (λ num. points_by num input) (λ num. refl) (of_input input) refused_input
+  pub parse_refused : {r : Refusal} → Parsed input (Err r) → number_of r ≡ of_input input
+  parse_refused h = ap (λ (f : Front). f.refusal) h.front ∙ front_number
 
-    pub no_recording : recording_in input ≡ take 0 input
-    unfolding recording_by
-    no_recording = nothing_by (λ num. recording_by num input) (λ num. refl) (of_input input) refused_input
+  pub no_points_lem : {r : Refusal} → Parsed input (Err r) → points_in input ≡ take 0 input
+  no_points_lem h = sym h.points
+
+  pub parse_accepted : {i : Input} → Parsed input (Ok i) → of_input input ≡ 0
+  parse_accepted h = sym (ap (λ (f : Front). f.refusal) h.front ∙ front_number)
+
+  pub parse_read : {i : Input} → Parsed input (Ok i) → (i.delta ≡ delta_in input) × (i.gamma ≡ gamma_in input)
+  parse_read h =
+      let read = h.front ∙ front_read (parse_accepted h) in
+      (ap (λ (f : Front). f.delta) read, ap (λ (f : Front). f.gamma) read)
+
+  -- no second answer tells anything else
+  pub no_second_parse : {r r' : Result Input Refusal} → Parsed input r → Parsed input r'
+      → (front_told r ≡ front_told r') × (points_told r ≡ points_told r') × (recording_told r ≡ recording_told r')
+  no_second_parse h k = (h.front ∙ sym k.front, h.points ∙ sym k.points, h.recording ∙ sym k.recording)

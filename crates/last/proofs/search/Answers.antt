@@ -1,22 +1,16 @@
 -- `last::search` meets its contract: refused as it is prepared, or as the search over spans answers. Assumes nothing.
-use mathlib.Core.Path.{sym, ap, ◌∙◌}
-use lib.ListN.{length}
-use Rattle.fit.specs.Answer.{begun}
-use Rattle.fit.proofs.Laws.Answers.{refused, begun_number, begun_none}
-use Rattle.fit.proofs.Laws.Compiled.{compiled_answer_lem}
-use Rattle.last.proofs.Laws.Ordinary.{going, prepared_number}
+use Rattle.std.proofs.Common.{rules}
+use Rattle.fit.proofs.Laws.Refused.{handed_search}
+use Rattle.last.proofs.Laws.Ordinary.{going, going_answers}
 use Rattle.last.proofs.search.Goals as goal
 
-pub returns-then-found-ne0 : goal.returns-then-found-ne0
-returns-then-found-ne0 c =
-    refused _ _ _ _ (c.begin-found.ensures ∙ ap begun (prepared_number _ _ _ _ _ c.prepare-prepared.ensures)) c.if-found-ne0.true
+pub returns-in_err-prepared : goal.returns-in_err-prepared
+returns-in_err-prepared c = handed_search _ _ _ _ _ _ c.from_residual.ensures.1 c.in_err-prepared.ensures
 
 pub over_spans-requires : goal.over_spans-requires
-over_spans-requires c =
-    let at = going _ _ _ _ c.prepare-prepared.ensures (sym (begun_number _ c.begin-found.ensures) ∙ c.if-found-ne0.false) in
-    (at.walkable, begun_none _ c.begin-found.ensures c.if-found-ne0.false)
+over_spans-requires c = (going _ _ _ _ c.in_ok-prepared.ensures).walkable
 
 pub returns : goal.returns
 returns c =
-    let at = going _ _ _ _ c.prepare-prepared.ensures (sym (begun_number _ c.begin-found.ensures) ∙ c.if-found-ne0.false) in
-    compiled_answer_lem _ _ _ _ _ at.made at.ok _ _ (ap length at.walk) c.over_spans.ensures
+    let answer = going_answers _ _ _ _ (going _ _ _ _ c.in_ok-prepared.ensures) c.over_spans.ensures.answer in
+    search rules

@@ -12,8 +12,8 @@ use Rattle.fit.specs.Rule.{reading_at, all_fit, is_place_by}
 use Rattle.fit.specs.Place.{fit_of, d_of, windows}
 use Rattle.fit.specs.Refusal.{max_points, Accepted}
 use Rattle.fit.specs.Spans.{span_fits, rule_in, spans_of}
-use Rattle.fit.specs.Answer.{Sought, sought_by, Lent, Tried, Answer}
-use Rattle.fit.specs.declared.answer.Search.{Search}
+use Rattle.fit.specs.Answer.{Sought, sought_by, Lent, told, Tried, Answer}
+use Rattle.fit.specs.declared.answer.Found.{Found}
 use Rattle.fit.proofs.Laws.Bools.{same_test, is_false}
 use Rattle.fit.proofs.Laws.Rules.{fit_all, by_below}
 use Rattle.fit.proofs.Laws.Refusals.{accepted_by_d}
@@ -52,6 +52,11 @@ pub record Onward (d : ℕ) (x y : List ℕ) (e e' : ℕ) : Type 0 where
   pub forth : e < e'
   pub short : e' ≤ e + (length x + 1)
 
+-- the point that is compared first is one of them
+pub first_in : {gamma : ℕ} {x y : List ℕ} {d : ℕ} {spans next order jumps : List ℕ} → Walkable d gamma x y spans next order jumps → {first : ℕ} → first ≡ get_or order 0 0
+    → first < length x
+first_in {x = x} {d = d} {order = order} known {first} read = compared_in d x order 0 first known.orders known.ok.asked.some read
+
 -- the walk begins where the reading at m is the one after the window
 pub walk_begins : (d : ℕ) (x y : List ℕ) → maximal_walk d x y ≡ left d x y (length x - length x)
 walk_begins d x y = let none : length x - length x ≡ 0 = omega arith in rw none (walk_start d x y)
@@ -78,7 +83,7 @@ module _ {gamma : ℕ} {x y : List ℕ} {d : ℕ} {spans next order jumps : List
 
   -- ---- the point that is compared first
   pub first_inside : first < length x
-  first_inside = compared_in d x order 0 first p.ready.orders ok.asked.some p.foremost
+  first_inside = first_in p.ready p.foremost
 
   -- one comparison tells whether it is near
   pub first_near : (s a : ℕ) (r : Bool) → a ≡ reading_at y s first → (r ≡ leb ((a + 256 - least) % 256) more) × (a ≤ highest) → r ≡ near_at d x y s first
@@ -146,15 +151,15 @@ module _ {gamma : ℕ} {x y : List ℕ} {d : ℕ} {spans next order jumps : List
       (rw (lt-ltb 0 (length x) ok.asked.some, ← p.foremost) refl)
       (g ∙ p.leaping.at (get_or y e 0) (omega (arith, p.readings e))))
 
-  pub along_step : (t : Sought) (s s' : ℕ) {walk : List ℕ} {entry held held' : Lent} {r r' : Search} → s + length x ≤ length y → s' ≡ maximal_next d x y s
+  pub along_step : (t : Sought) (s s' : ℕ) {walk : List ℕ} {entry held held' : Lent} {r r' : Found} → s + length x ≤ length y → s' ≡ maximal_next d x y s
       → Along t walk (left d x y s) s entry held r → Tried t s r held r' held' → Along t walk (left d x y s') s' entry held' r'
   along_step t s s' h e f n =
       along_tried t s s s' (along_same (walk_step d x y s (omega arith) ∙ ap (λ (k : ℕ). s ∷ left d x y k) (sym e)) f) n
       (omega (arith, e, forward d x y s (omega arith)))
 
-  pub walked : (s : ℕ) {entry held : Lent} {r : Search} → windows (length x) (length y) ≤ s
+  pub walked : (s : ℕ) {entry held : Lent} {r : Found} → windows (length x) (length y) ≤ s
       → Along (sought_by (rule_in spans) (length x) gamma y) (maximal_walk d x y) (left d x y s) s entry held r
-      → Answer 0 (sought_by (rule_in spans) (length x) gamma y) (length (maximal_walk d x y)) entry r held
+      → Answer 0 (sought_by (rule_in spans) (length x) gamma y) (length (maximal_walk d x y)) entry (told r) held
   walked s h f =
       along_end (sought_by (rule_in spans) (length x) gamma y) (maximal_walk d x y) s (length (maximal_walk d x y))
       (λ t e. by_below (rule_in spans) (length x) gamma y t e) refl (maximal_rises d x y)
@@ -162,10 +167,10 @@ module _ {gamma : ℕ} {x y : List ℕ} {d : ℕ} {spans next order jumps : List
       (along_same (walk_end d x y s h) f)
 
   -- the last window, after which there is no reading: the walk ends behind it
-  pub walked_last : (s : ℕ) {entry held held' : Lent} {r r' : Search} → s + length x ≡ length y
+  pub walked_last : (s : ℕ) {entry held held' : Lent} {r r' : Found} → s + length x ≡ length y
       → Along (sought_by (rule_in spans) (length x) gamma y) (maximal_walk d x y) (left d x y s) s entry held r
       → Tried (sought_by (rule_in spans) (length x) gamma y) s r held r' held'
-      → Answer 0 (sought_by (rule_in spans) (length x) gamma y) (length (maximal_walk d x y)) entry r' held'
+      → Answer 0 (sought_by (rule_in spans) (length x) gamma y) (length (maximal_walk d x y)) entry (told r') held'
   walked_last s h f n =
       walked (maximal_next d x y s) (omega (arith, forward d x y s (omega arith))) (along_step _ s (maximal_next d x y s) (omega arith) refl f n)
 

@@ -1,47 +1,45 @@
 -- `leaping::walk` meets its contract: it goes along the walk, told by where the reading after the window stands. Assumes nothing.
-use mathlib.Core.Path.{refl, sym, ◌∙◌}
+use mathlib.Core.Path.{◌≡◌, refl, sym, ◌∙◌}
 use native.Mathlib.Omega.{arith}
 use Rattle.fit.proofs.Laws.Alongs.{along_start, along_same}
 use Rattle.fit.proofs.Laws.Answers.{noted_miss}
-use Rattle.fit.specs.Answer.{lent}
-use Rattle.leaping.proofs.Laws.Prepared.{first_inside, first_near, none_leading, far_false, all_near, table_inside, near_goes, far_goes, along_step, walked, walked_last, walk_begins}
-use Rattle.leaping.proofs.Laws.Steps.{compared_in}
+use Rattle.fit.specs.Answer.{nothing}
+use Rattle.leaping.proofs.Laws.Prepared.{first_in, first_inside, first_near, none_leading, far_false, all_near, table_inside, near_goes, far_goes, along_step, walked, walked_last, walk_begins}
+use Rattle.noting.proofs.Laws.Handing.{same_still, same_on}
+use Rattle.noting.specs.Lists.{lent_in}
 use Rattle.leaping.proofs.walk.Goals as goal
 
-pub full_jump-full-requires : goal.full_jump-full-requires
-full_jump-full-requires c = let ok = c.requires.0.ok.asked in record { some = ok.some; few = ok.few; small = ok.delta_small; real = ok.real }
-
 pub bounds-points-first : goal.bounds-points-first
-bounds-points-first c = (let known = c.requires.0 in compared_in _ _ _ 0 _ known.orders known.ok.asked.some c.index-first.ensures.0)
+bounds-points-first c = first_in c.requires.walkable c.from-first.ensures
 
 pub bounds-points-first-2 : goal.bounds-points-first-2
-bounds-points-first-2 c = (let known = c.requires.0 in compared_in _ _ _ 0 _ known.orders known.ok.asked.some c.index-first.ensures.0)
+bounds-points-first-2 c = first_in c.requires.walkable c.from-first.ensures
 
 pub overflow_sub-more : goal.overflow_sub-more
 overflow_sub-more c =
-    omega (arith, c.most_near.ensures, c.least_near-least.ensures, c.requires.0.ok.asked.real _ (let known = c.requires.0 in compared_in _ _ _ 0 _ known.orders known.ok.asked.some c.index-first.ensures.0))
+    omega (arith, c.most_near.ensures, c.least_near-least.ensures, c.requires.walkable.ok.asked.real _ (first_in c.requires.walkable c.from-first.ensures))
 
-pub bounds-jumps-first : goal.bounds-jumps-first
-bounds-jumps-first c = omega (arith, (let known = c.requires.0 in compared_in _ _ _ 0 _ known.orders known.ok.asked.some c.index-first.ensures.0), c.requires.0.ok.asked.few)
+pub bounds-compared-first : goal.bounds-compared-first
+bounds-compared-first c = omega (arith, first_in c.requires.walkable c.from-first.ensures, c.requires.walkable.ok.asked.few)
 
 pub loop-e-init : goal.loop-e-init
 loop-e-init c =
-    let known = c.requires.0 in (
+    let known = c.requires.walkable in
+    let zeros = c.default-found.ensures in
+    let none : c.default-found.result ≡ nothing = λ i. record { total = zeros.0 i; tried = zeros.1.0 i; least = zeros.1.1 i } in (
       record {
         ready = known;
         readings = λ i. omega (arith, c.type_inv.recording i);
         whole = c.full_jump-full.ensures;
-        foremost = c.index-first.ensures.0;
+        foremost = c.from-first.ensures;
         lower = c.least_near-least.ensures;
-        upper = omega (arith, c.most_near.ensures, c.least_near-least.ensures, known.ok.asked.real _ (let known = c.requires.0 in compared_in _ _ _ 0 _ known.orders known.ok.asked.some c.index-first.ensures.0));
-        leaping = rw c.index.ensures.0 at c.leap_table-leaps.ensures;
+        upper = omega (arith, c.most_near.ensures, c.least_near-least.ensures, known.ok.asked.real _ (first_in c.requires.walkable c.from-first.ensures));
+        leaping = c.leap_table-leaps.ensures;
       },
       omega arith,
-      along_same (walk_begins _ _ _) (along_start _ _ _ _ c.requires.1),
+      along_same (walk_begins _ _ _) (along_start _ _ _ _ none),
+      same_still _,
     )
-
-pub overflow_add-s : goal.overflow_add-s
-overflow_add-s c = let known = c.loop-e.invariant.0 in omega (arith, first_inside known, known.ready.ok.short, known.ready.ok.asked.few)
 
 pub bounds-recording-s : goal.bounds-recording-s
 bounds-recording-s c = let known = c.loop-e.invariant.0 in omega (arith, first_inside known)
@@ -51,8 +49,8 @@ near_points-leading-requires c =
     let known = c.loop-e.invariant.0 in
     let ok = known.ready.ok.asked in
     let near = sym (first_near known _ _ _ refl c.is_among.ensures) ∙ c.if-is_among.true in record {
-      holds_order = (known.ready.orders, ok.few, omega arith);
-      in_bounds = (ok.some, rw (← known.foremost) near);
+      holds_order = (known.ready.orders, omega arith);
+      first_near = rw (← known.foremost) near;
     }
 
 pub compared_jump-jump-requires : goal.compared_jump-jump-requires
@@ -60,56 +58,43 @@ compared_jump-jump-requires c = table_inside c.loop-e.invariant.0 _ _ c.near_poi
 
 pub try_compared-found-requires : goal.try_compared-found-requires
 try_compared-found-requires c =
+    let same = c.requires.same_points in
     let inv = c.loop-e.invariant in
     let ok = inv.0.ready.ok in
     let led = c.near_points-leading.ensures.0 in record {
-      m_le_max_points = (ok.asked.few, omega arith, ok.asked.gamma_small);
+      inside = (omega (arith, same), ok.asked.gamma_small);
       s_bound = (omega (arith, ok.short), omega (arith, ok.short, inv.2.order, inv.2.room), omega (arith, ok.short, inv.2.room));
-      s_value = (far_false inv.0 _ _ led, all_near inv.0 _ _ (omega arith) led);
+      s_value = rw same (far_false inv.0 _ _ led, all_near inv.0 _ _ (omega arith) led);
     }
 
 pub overflow_add-e : goal.overflow_add-e
-overflow_add-e c = let ok = c.loop-e.invariant.0.ready.ok in omega (arith, (let inv = c.loop-e.invariant in near_goes inv.0 _ _ _ _ _ inv.1 c.loop-e-test.true c.near_points-leading.ensures.0 c.compared_jump-jump.ensures c.jump_at.ensures.0 c.larger-longer.ensures).short, ok.short, ok.asked.few)
+overflow_add-e c = let ok = c.loop-e.invariant.0.ready.ok in omega (arith, (near_goes c.loop-e.invariant.0 _ _ _ _ _ c.loop-e.invariant.1 c.loop-e-test.true c.near_points-leading.ensures.0 c.compared_jump-jump.ensures c.jump_at.ensures.0 c.max-longer.ensures).short, ok.short, ok.asked.few)
 
 pub loop-e-smaller-then-is_among : goal.loop-e-smaller-then-is_among
-loop-e-smaller-then-is_among c = omega (arith, (let inv = c.loop-e.invariant in near_goes inv.0 _ _ _ _ _ inv.1 c.loop-e-test.true c.near_points-leading.ensures.0 c.compared_jump-jump.ensures c.jump_at.ensures.0 c.larger-longer.ensures).forth)
+loop-e-smaller-then-is_among c = omega (arith, (near_goes c.loop-e.invariant.0 _ _ _ _ _ c.loop-e.invariant.1 c.loop-e-test.true c.near_points-leading.ensures.0 c.compared_jump-jump.ensures c.jump_at.ensures.0 c.max-longer.ensures).forth)
 
 pub loop-e-preserved-then-is_among : goal.loop-e-preserved-then-is_among
 loop-e-preserved-then-is_among c =
     let inv = c.loop-e.invariant in
-    let on = let inv = c.loop-e.invariant in near_goes inv.0 _ _ _ _ _ inv.1 c.loop-e-test.true c.near_points-leading.ensures.0 c.compared_jump-jump.ensures c.jump_at.ensures.0 c.larger-longer.ensures in
-    (inv.0, omega (arith, inv.1), along_step inv.0 _ _ _ (omega arith) on.next inv.2 c.try_compared-found.ensures)
-
-pub note_none-found-requires : goal.note_none-found-requires
-note_none-found-requires c = let inv = c.loop-e.invariant in omega (arith, inv.0.ready.ok.short, inv.2.room)
-
-pub overflow_add-e-else-is_among : goal.overflow_add-e-else-is_among
-overflow_add-e-else-is_among c = let ok = c.loop-e.invariant.0.ready.ok in omega (arith, (let inv = c.loop-e.invariant in far_goes inv.0 _ _ inv.1 c.loop-e-test.true ((sym (first_near c.loop-e.invariant.0 _ _ _ refl c.is_among.ensures) ∙ c.if-is_among.false)) c.jump_at-e.ensures.0).short, ok.short, ok.asked.few)
+    let on = near_goes inv.0 _ _ _ _ _ inv.1 c.loop-e-test.true c.near_points-leading.ensures.0 c.compared_jump-jump.ensures c.jump_at.ensures.0 c.max-longer.ensures in
+    (inv.0, omega (arith, inv.1), along_step inv.0 _ _ _ (omega arith) on.next inv.2 (rw c.requires.same_points at c.try_compared-found.ensures.tried), same_on inv.3 c.try_compared-found.ensures.same)
 
 pub loop-e-smaller : goal.loop-e-smaller
-loop-e-smaller c = omega (arith, (let inv = c.loop-e.invariant in far_goes inv.0 _ _ inv.1 c.loop-e-test.true ((sym (first_near c.loop-e.invariant.0 _ _ _ refl c.is_among.ensures) ∙ c.if-is_among.false)) c.jump_at-e.ensures.0).forth)
+loop-e-smaller c = omega (arith, (far_goes c.loop-e.invariant.0 _ _ c.loop-e.invariant.1 c.loop-e-test.true (sym (first_near c.loop-e.invariant.0 _ _ _ refl c.is_among.ensures) ∙ c.if-is_among.false) c.jump_at-e.ensures.0).forth)
 
 pub loop-e-preserved : goal.loop-e-preserved
 loop-e-preserved c =
     let inv = c.loop-e.invariant in
     let known = inv.0 in
     let miss = far_false known _ 0 (none_leading known _ (sym (first_near c.loop-e.invariant.0 _ _ _ refl c.is_among.ensures) ∙ c.if-is_among.false)) known.ready.ok.asked.some in
-    (known, omega (arith, inv.1), along_step known _ _ _ (omega arith) (let inv = c.loop-e.invariant in far_goes inv.0 _ _ inv.1 c.loop-e-test.true ((sym (first_near c.loop-e.invariant.0 _ _ _ refl c.is_among.ensures) ∙ c.if-is_among.false)) c.jump_at-e.ensures.0).next inv.2 (rw c.note_none-found.ensures (noted_miss _ _ _ _ _ miss)))
+    (known, omega (arith, inv.1), along_step known _ _ _ (omega arith) (far_goes c.loop-e.invariant.0 _ _ c.loop-e.invariant.1 c.loop-e-test.true (sym (first_near c.loop-e.invariant.0 _ _ _ refl c.is_among.ensures) ∙ c.if-is_among.false) c.jump_at-e.ensures.0).next inv.2 (rw c.note_none-found.ensures (noted_miss _ _ _ _ _ miss)), inv.3)
 
-pub try_at-requires : goal.try_at-requires
-try_at-requires c =
+pub returns-then-e-recording-clause-answer : goal.returns-then-e-recording-clause-answer
+returns-then-e-recording-clause-answer c =
     let inv = c.loop-e.invariant in
-    let ok = inv.0.ready.ok in record {
-      le_m = (ok.asked.some, ok.asked.few, omega arith, ok.asked.gamma_small);
-      s_bound = (omega (arith, ok.short), omega (arith, ok.short, inv.2.order, inv.2.room), omega (arith, ok.short, inv.2.room));
-    }
+    walked_last inv.0 _ (omega arith) inv.2 (rw c.requires.same_points at c.try_at.ensures.tried)
 
-pub returns-then-e-recording : goal.returns-then-e-recording
-returns-then-e-recording c =
-    let inv = c.loop-e.invariant in
-    walked_last inv.0 _ (omega arith) inv.2 c.try_at.ensures
-
-pub returns : goal.returns
-returns c =
+pub returns-clause-answer : goal.returns-clause-answer
+returns-clause-answer c =
     let at-loop = c.loop-e in
-    walked at-loop.invariant.0 _ {held = lent at-loop.list at-loop.sums} (omega arith) at-loop.invariant.2
+    walked at-loop.invariant.0 _ {held = lent_in at-loop.lists} (omega arith) at-loop.invariant.2

@@ -6,25 +6,33 @@ use native.Mathlib.Numerals.{add-one}
 use native.Mathlib.Omega.{arith}
 use lib.ListN.{length, get_or, take, length-append}
 use lib.Seq.{take-suc}
+use Rattle.std.specs.Prelude.{Ok, Err}
+use Rattle.fit.specs.Answer.{begun, search_of}
+use Rattle.fit.specs.Refused.{number_of}
+use Rattle.fit.specs.declared.answer.Found.{Found}
 use Rattle.fit.specs.declared.answer.Search.{Search}
-use Rattle.page.specs.Put.{Put, decimal}
-use Rattle.page.proofs.Laws.Pages.{put_both, put_none}
+use Rattle.fit.specs.declared.refusal.Refusal.{Refusal}
+use Rattle.fit.proofs.Laws.Refused.{number_some}
+use Rattle.page.specs.Put.{decimal}
+use Rattle.page.specs.Puts.{Puts}
+use Rattle.page.specs.declared.Page.{Page}
+use Rattle.page.proofs.Laws.Pages.{puts_both, puts_none}
 use Rattle.page.proofs.Laws.Numbers.{decimal_short}
 use Rattle.lines.specs.Lines.{space, line_end, refused_word, ended, counts_line, refused_line, line_by, line_of, lines_of}
 
 -- ---- the line of a searcher, refused or not
-module _ (page : List ℕ) (at : ℕ) (name : List ℕ) (r : Search) {end : ℕ} {after : List ℕ} where
-  pub line_refused : (r.refusal ≡ 0 → ⊥) → Put page at (refused_line name r.refusal) end after → Put page at (line_of name r) end after
+module _ (name : List ℕ) {p q : Page} where
+  pub line_counted : (f : Found) → Puts p (counts_line name f.total f.tried) q → Puts p (line_of name (search_of (Ok f))) q
   unfolding line_by
-  line_refused some h = by_number r.refusal some h
-    where
-      by_number : (num : ℕ) → (num ≡ 0 → ⊥) → Put page at (refused_line name num) end after → Put page at (line_by num name r) end after
-      by_number zero h k = absurd (h refl)
-      by_number (suc num) h k = k
+  line_counted f h = h
 
-  pub line_counted : r.refusal ≡ 0 → Put page at (counts_line name r.total r.tried) end after → Put page at (line_of name r) end after
+  pub line_refused : (e : Refusal) → Puts p (refused_line name (number_of e)) q → Puts p (line_of name (search_of (Err e))) q
   unfolding line_by
-  line_counted none h = rw none h
+  line_refused e h = by_number (number_of e) (number_some e) h
+    where
+      by_number : (num : ℕ) → 1 ≤ num → Puts p (refused_line name num) q → Puts p (line_by num name (begun num)) q
+      by_number zero some k = absurd (omega (arith, some))
+      by_number (suc num) some k = k
 
 -- ---- the places, one to a line
 lines_behind : (ps : List ℕ) (p : ℕ) → lines_of (ps ++ (p ∷ [])) ≡ lines_of ps ++ ended p
@@ -33,15 +41,14 @@ lines_behind [] p = append-nil (ended p)
 lines_behind (q ∷ ps) p = ap (λ (l : List ℕ). ended q ++ l) (lines_behind ps p) ∙ sym (append_assoc (ended q) (lines_of ps) (ended p))
 
 -- before the first place nothing is put
-pub no_line : (page : List ℕ) (at : ℕ) (ps : List ℕ) → Put page at (lines_of (take 0 ps)) at page
+pub no_line : (p : Page) → Puts p (lines_of []) p
 unfolding lines_of
-no_line page at ps = put_none page at
+no_line p = puts_none p
 
 -- one place more
-pub one_more_line : (page : List ℕ) (at : ℕ) (ps : List ℕ) (i p : ℕ) {mid end : ℕ} {between after : List ℕ} → i < length ps → p ≡ get_or ps i 0
-    → Put page at (lines_of (take i ps)) mid between → Put between mid (ended p) end after → Put page at (lines_of (take (i + 1) ps)) end after
-one_more_line page at ps i p inside e h k =
-    rw (add-one i, take-suc ps i 0 inside, ← e, lines_behind (take i ps) p) (put_both page at (lines_of (take i ps)) (ended p) h k)
+pub one_more_line : (ps : List ℕ) (i s : ℕ) {p q r : Page} → i < length ps → s ≡ get_or ps i 0
+    → Puts p (lines_of (take i ps)) q → Puts q (ended s) r → Puts p (lines_of (take (i + 1) ps)) r
+one_more_line ps i s inside e h k = rw (add-one i, take-suc ps i 0 inside, ← e, lines_behind (take i ps) s) (puts_both (lines_of (take i ps)) (ended s) h k)
 
 -- ---- how long lines are, of numbers below a million and of places below 100,000
 ended_short : (x j : ℕ) → 1 ≤ j → x < 10 ^ j → length (ended x) ≤ j + 1

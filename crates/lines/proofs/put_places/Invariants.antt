@@ -1,13 +1,8 @@
--- `lines::put_places` meets its contract: after i places their lines stand on the page. Assumes nothing.
-use Prim.Native.Nat.{◌≤◌, ◌-◌}
-use mathlib.Core.Path.{◌≡◌}
-use lib.ListN.{length, take}
-use Rattle.page.specs.Put.{Put}
+-- After so many places their lines stand on the page.
+use Rattle.std.proofs.Common.{take}
+use Rattle.page.specs.Puts.{Puts}
 use Rattle.lines.specs.Lines.{lines_of}
 use Rattle.lines.proofs.put_places.Given as goal
 
-abbrev pub invariant-loop-i : goal.invariant-loop-i
-invariant-loop-i l = (l.i ≤ length l.places) × Put l.initial.page l.at (lines_of (take l.i l.places)) l.end l.page × (length l.page ≡ length l.initial.page)
-
-abbrev pub decreases-loop-i : goal.decreases-loop-i
-decreases-loop-i l = length l.places - l.i
+abbrev pub invariant-loop-place : goal.invariant-loop-place
+invariant-loop-place l = Puts l.initial.page (lines_of (take l.place-index l.places)) l.page

@@ -1,12 +1,8 @@
 -- `marks::sieve` meets its contract, bit by bit. Assumes nothing.
 use native.Mathlib.Omega.{arith}
-use lib.Pow.{pow_pos}
 use Rattle.marks.proofs.Laws.Bits.{one_shifted}
 use Rattle.marks.proofs.Laws.Sieving.{from_before, from_after, sieve_marks}
 use Rattle.marks.proofs.sieve.Goals as goal
-
-pub overflow_sub-first : goal.overflow_sub-first
-overflow_sub-first c = omega (arith, one_shifted c.args.k (omega arith), pow_pos c.args.k)
 
 pub returns : goal.returns
 returns c =

@@ -1,8 +1,8 @@
 -- The whole search: what is known where nothing refuses it, and that the sums by the table tell the places. Assumes nothing.
-use mathlib.Core.Path.{◌≡◌, refl, ap, ◌∙◌}
+use mathlib.Core.Path.{◌≡◌, refl, sym, ap, subst, ◌∙◌}
 use mathlib.Core.Bool.{true}
 use mathlib.Core.List.{List}
-use Prim.Native.Nat.{ℕ, suc, ◌+◌, ◌-◌, ◌*◌, ◌/◌, ◌^◌, ◌≤◌, ◌<◌}
+use Prim.Native.Nat.{ℕ, suc, min, ◌+◌, ◌-◌, ◌*◌, ◌/◌, ◌%◌, ◌^◌, ◌≤◌, ◌<◌}
 use native.Mathlib.Nat.{mul-le-mul_right}
 use native.Mathlib.Numerals.{add-one}
 use native.Mathlib.Omega.{arith}
@@ -11,21 +11,25 @@ use lib.ListN.{length, get_or}
 use Rattle.fit.specs.Reading.{highest, near}
 use Rattle.fit.specs.Rule.{reading_at, sum_cost, is_place_by}
 use Rattle.fit.specs.Place.{cost_of, sum_diff, Place, is_place, windows, d_of, g_of}
-use Rattle.fit.specs.Refusal.{max_points, max_gamma, Accepted}
-use Rattle.fit.specs.Answer.{sought_of, Lent, Answer, Answers}
-use Rattle.fit.specs.declared.answer.Search.{Search}
+use Rattle.fit.specs.Refusal.{max_points, max_gamma, search_refusal, Accepted}
+use Rattle.fit.specs.Answer.{sought_of, Lent, told, Answer, Answers}
+use Rattle.fit.specs.declared.answer.Found.{Found}
 use Rattle.fit.proofs.Laws.Bools.{same_test}
 use Rattle.fit.proofs.Laws.Rules.{fit_all, sum_term, sum_same, by_is, by_inside, by_within}
 use Rattle.fit.proofs.Laws.Places.{place_of, place_fits, place_test, test_place, place_down, place_up}
 use Rattle.fit.proofs.Laws.Refusals.{none_exactly}
 use Rattle.fit.proofs.Laws.Answers.{SameSought, answer_same}
+use Rattle.limits.specs.Made.{Carries}
+use Rattle.limits.specs.declared.checked.Checked.{Checked}
+use Rattle.limits.proofs.Laws.Constructed.{told_d, told_g}
+use Rattle.limits.proofs.Laws.Openings.{passed}
 use Rattle.counters.specs.Width.{low_bits, width_of}
 use Rattle.counters.specs.Word.{word_bits}
 use Rattle.counters.specs.Words.{per_word, Needed, words_for}
 use Rattle.counters.specs.Sound.{LaidOut}
 use Rattle.counters.specs.declared.Masks.{Masks}
 use Rattle.counters.proofs.Laws.Widths.{low_bits_least, room_next}
-use Rattle.counters.proofs.Laws.Counts.{per_fits, some_word}
+use Rattle.counters.proofs.Laws.Counts.{per_fits, some_word, rounded_up}
 use Rattle.adding.specs.Costs.{added_of, with_entering}
 use Rattle.adding.specs.Tables.{Room, Tabled}
 use Rattle.adding.proofs.Laws.Costing.{added_near, added_fits, added_le}
@@ -78,9 +82,24 @@ pub record Open (delta gamma : ℕ) (x y : List ℕ) (d g b : ℕ) : Type 0 wher
   pub g_is : g ≡ g_of (length x) delta gamma
   pub b_is : b ≡ low_bits g
 
-pub opened : (delta gamma : ℕ) (x y : List ℕ) (d g b : ℕ) → Accepted delta gamma x y → d ≡ d_of delta gamma → g ≡ g_of (length x) delta gamma
+-- what the checked input tells
+pub opened : (delta gamma : ℕ) (x y : List ℕ) {q : Checked} {d g b : ℕ} → (search_refusal delta gamma x y ≡ 0) × Carries delta gamma x q
+    → d ≡ d_of q.tolerance.delta q.tolerance.gamma → g ≡ g_of (length x) q.tolerance.delta q.tolerance.gamma
     → (b ≡ low_bits g) × (b ≤ 32) → Open delta gamma x y d g b
-opened delta gamma x y d g b ok ed eg eb = record { ok = ok; d_is = ed; g_is = eg; b_is = eb.0 }
+opened delta gamma x y asked ed eg eb =
+    let at = passed delta gamma x y asked in
+    record { ok = at.ok; d_is = told_d delta gamma x at.carries ed; g_is = told_g delta gamma x at.carries (length x) eg; b_is = eb.0 }
+
+-- and with it the masks, as the code lays them out for g in a wider type, and the words, which it counts by a division that rounds up
+pub record Underway (delta gamma : ℕ) (x y : List ℕ) (d g b : ℕ) (k : Masks) (used : ℕ) : Type 0 where
+  pub known : Open delta gamma x y d g b
+  pub laid : LaidOut b (word_bits / (b + 1)) g k
+  pub used_is : used ≡ (length x + (k.per - 1)) / k.per
+
+pub underway : {delta gamma : ℕ} {x y : List ℕ} {d g b wide : ℕ} {k : Masks} {used : ℕ} → Open delta gamma x y d g b → wide ≡ g
+    → LaidOut b (word_bits / (b + 1)) wide k → used ≡ length x / k.per + min 1 (length x % k.per) → Underway delta gamma x y d g b k used
+underway {x = x} {k = k} o e laid u =
+    record { known = o; laid = rw e at laid; used_is = u ∙ rounded_up k.per (length x) laid.sound.some o.ok.asked.some }
 
 module _ (delta gamma : ℕ) (x y : List ℕ) (d g b : ℕ) (o : Open delta gamma x y d g b) where
   d_le_g : d ≤ g
@@ -160,17 +179,23 @@ module _ (delta gamma : ℕ) (x y : List ℕ) (d g b : ℕ) (o : Open delta gamm
               sum_same (scan_cost k used t) (added_of d g x) y s (length x)
               (λ i h. costs_tabled (suc k.b) k.per k.enter used (length x) (added_of d g x) t by_masks needed.enough i (reading_at y s i) h (bytes (s + i)))
 
+          -- the masks' bound is the search's
+          bound_is : k.g ≡ g_of (length x) delta gamma
+          bound_is = laid.g_is ∙ o.g_is
+
           same_test_at : (s : ℕ) → (sought_in k (length x) used t y).place s ≡ is_place delta gamma x y s
           same_test_at s =
-              rw (laid.g_is, o.g_is) (sums_tell delta gamma x y (scan_cost k used t) s (rw (o.d_is, o.g_is) at (table_sum s)))
+              subst (λ (g' : ℕ). is_place_by (summing (scan_cost k used t)) (length x) g' y s ≡ is_place delta gamma x y s) (sym bound_is)
+              (sums_tell delta gamma x y (scan_cost k used t) s (rw (o.d_is, o.g_is) at (table_sum s)))
 
           same_sum_at : (s : ℕ) → (sought_in k (length x) used t y).place s ≡ true → (sought_in k (length x) used t y).sum s ≡ sum_diff x y s
           same_sum_at s e =
-              summed_sum delta gamma x y (scan_cost k used t) s (rw (o.d_is, o.g_is) at (table_sum s)) (rw (laid.g_is, o.g_is) at e)
+              summed_sum delta gamma x y (scan_cost k used t) s (rw (o.d_is, o.g_is) at (table_sum s))
+              (subst (λ (g' : ℕ). is_place_by (summing (scan_cost k used t)) (length x) g' y s ≡ true) bound_is e)
 
           same_sought : SameSought (sought_in k (length x) used t y) (sought_of delta gamma x y)
           same_sought = record { same_count = refl; same_place = same_test_at; same_sum = same_sum_at }
 
-          pub answered : {entry final : Lent} {r : Search} → Answer 0 (sought_in k (length x) used t y) (windows (length x) (length y)) entry r final
-              → Answers delta gamma x y (windows (length x) (length y)) entry r final
+          pub answered : {entry final : Lent} {r : Found} → Answer 0 (sought_in k (length x) used t y) (windows (length x) (length y)) entry (told r) final
+              → Answers delta gamma x y (windows (length x) (length y)) entry (told r) final
           answered {entry} a = rw ((none_exactly delta gamma x y).1 o.ok) (answer_same _ _ same_sought 0 _ entry a)

@@ -1,16 +1,18 @@
 -- Laws of numbers in decimal digits. Assumes nothing.
 use Prim.Native.Nat.{ℕ, zero, suc, ◌+◌, ◌-◌, ◌/◌, ◌%◌, ◌^◌, ◌≤◌, ◌<◌}
 use mathlib.Core.Bool.{cond}
-use mathlib.Core.Path.{◌≡◌, refl, sym, ap}
-use mathlib.Core.List.{List, [], ◌∷◌}
+use mathlib.Core.Path.{◌≡◌, refl, sym, ap, ◌∙◌}
+use mathlib.Core.List.{List, [], ◌∷◌, ◌++◌}
 use native.Mathlib.Omega.{arith}
 use native.Mathlib.Decide.{dec_le}
 use native.Mathlib.Nat.{le_refl, le_trans, add-zero, add-suc}
-use lib.ListN.{length, take, length-append}
+use lib.ListN.{length, length-append}
 use lib.Dec.{ltb}
 use borrow.Author.Tests.{lt-ltb, le-ltb}
 use Rattle.io.specs.Digits.{hex_digit_ascii, last_digits, IsDigitCount}
-use Rattle.page.specs.Put.{Put, count_from, decimal}
+use Rattle.std.specs.Fmt as Fmt
+use Rattle.std.proofs.lemmas.Fmt.{decimal_by_steps}
+use Rattle.page.specs.Put.{count_from, decimal}
 
 -- ten to the smaller power is the smaller number
 ten_rises : (j i : ℕ) → 10 ^ j ≤ 10 ^ (j + i)
@@ -62,14 +64,46 @@ few_enough x c few = by_order (dec_le c 1)
     by_order (no h) = omega (arith, h, few.2 (omega (arith, h)), ten_more (c - 1))
 
 -- x has its fewest digits
-pub fewest_digits : (x c : ℕ) → IsDigitCount 10 1 x c → last_digits 10 c x ≡ decimal x
+fewest_digits : (x c : ℕ) → IsDigitCount 10 1 x c → last_digits 10 c x ≡ decimal x
 unfolding decimal
 fewest_digits x c few = ap (λ (n : ℕ). last_digits 10 n x) (sym (fewest_found x 1 x c (omega arith) few.0 (few_enough x c few) few))
 
--- digits that were made elsewhere are put as a text
-pub number_put : (page : List ℕ) (at x count end : ℕ) (made after : List ℕ) → IsDigitCount 10 1 x count → take count made ≡ last_digits 10 count x
-    → Put page at (take count made) end after → Put page at (decimal x) end after
-number_put page at x count end made after few e h = rw (← fewest_digits x count few, ← e) h
+-- ---- the digits that the library writes
+record Counted (n : ℕ) (text : List ℕ) : Type 0 where
+  count : ℕ
+  few : IsDigitCount 10 1 n count
+  made : text ≡ last_digits 10 count n
+
+one_digit : (n : ℕ) → n < 10 → Counted n ((48 + n) ∷ [])
+one_digit n h =
+    let same : n % 10 ≡ n = omega (arith, h) in
+    record {
+      count = 1;
+      few = (omega arith, omega (arith, h), λ l. omega (arith, l));
+      made = rw (same, lt-ltb n 10 h);
+    }
+
+digit_more : (n : ℕ) (text : List ℕ) → 10 ≤ n → Counted (n / 10) text → Counted n (text ++ ((48 + n % 10) ∷ []))
+digit_more n text h before = by_count before.count before.few before.made
+  where
+    by_count : (c : ℕ) → IsDigitCount 10 1 (n / 10) c → text ≡ last_digits 10 c (n / 10) → Counted n (text ++ ((48 + n % 10) ∷ []))
+    by_count zero few made = absurd (omega (arith, few.0))
+    by_count (suc c) few made = record {
+      count = suc (suc c);
+      few = (omega arith, omega (arith, few.1), λ l. let least : suc (suc c) - 1 ≡ suc c = omega arith in rw least (by_order (dec_le 1 c)));
+      made = rw (made, lt-ltb (n % 10) 10 (omega arith));
+    }
+      where
+        by_order : Dec (1 ≤ c) → 10 ^ suc c ≤ n
+        by_order (yes some) =
+            let one_less : suc c - 1 ≡ c = omega arith in
+            omega (arith, rw one_less at (few.2 (omega (arith, some))))
+        by_order (no none) = let first : c ≡ 0 = omega (arith, none) in rw first (omega (arith, h))
+
+pub decimal_same : (x : ℕ) → x < 2 ^ 64 → Fmt.decimal x ≡ decimal x
+decimal_same x l =
+    let counted = decimal_by_steps Counted one_digit digit_more x l in
+    counted.made ∙ fewest_digits x counted.count counted.few
 
 -- ---- how many digits a number has
 digits_long : (b k n : ℕ) → length (last_digits b k n) ≡ k

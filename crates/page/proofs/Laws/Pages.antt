@@ -1,30 +1,15 @@
 -- Laws of texts on a page. Assumes nothing.
-use Prim.Native.Nat.{ℕ, ◌+◌, ◌-◌, ◌≤◌, ◌<◌, min}
+use Prim.Native.Nat.{ℕ, ◌+◌, ◌-◌, ◌≤◌, min}
 use mathlib.Core.Path.{◌≡◌, refl, sym, ap, ◌∙◌}
 use native.Mathlib.Omega.{arith}
 use native.Mathlib.Decide.{dec_le}
-use native.Mathlib.Numerals.{add-one}
 use native.Mathlib.Nat.{add-zero, add_assoc, sub-add-eq}
 use mathlib.Core.List.{List, [], ◌++◌, append_assoc, append-nil}
-use lib.ListN.{length, get_or, set, take, drop, length-set, length-append}
-use lib.Seq.{paste, paste-zero, paste-suc, length-paste, take-paste, drop-paste, drop-drop, take-length, take-append-add, take-append-le}
+use lib.ListN.{length, take, drop, length-append}
+use lib.Seq.{paste, paste-zero, length-paste, take-paste, drop-paste, drop-drop, take-length, take-append-add, take-append-le}
 use Rattle.page.specs.Put.{fits, Put}
-
--- after i bytes: the page as it was, with the first i of the text pasted in
-pub record Copied (before : List ℕ) (at : ℕ) (text : List ℕ) (i : ℕ) (page : List ℕ) : Type 0 where
-  pub pasted : page ≡ paste before at text i
-  pub same_length : length page ≡ length before
-
-pub none_copied : (before : List ℕ) (at : ℕ) (text : List ℕ) → Copied before at text 0 before
-none_copied before at text = record { pasted = paste-zero before at text; same_length = refl }
-
-pub one_more_copied : (before : List ℕ) (at : ℕ) (text : List ℕ) (i : ℕ) (page : List ℕ) → at + i < length before → i < length text
-    → Copied before at text i page → Copied before at text (i + 1) (set page (at + i) (get_or text i 0))
-one_more_copied before at text i page inside more h =
-    record {
-      pasted = ap (λ (l : List ℕ). set l (at + i) (get_or text i 0)) h.pasted ∙ paste-suc before at text i 0 inside more ∙ ap (paste before at text) (sym (add-one i));
-      same_length = length-set page (at + i) (get_or text i 0) ∙ h.same_length;
-    }
+use Rattle.page.specs.Puts.{Puts}
+use Rattle.page.specs.declared.Page.{Page}
 
 pub nothing_put : (page : List ℕ) (at : ℕ) (text : List ℕ) → length page ≤ at → Put page at text at page
 nothing_put page at text full =
@@ -32,14 +17,6 @@ nothing_put page at text full =
     record {
       held = rw none (paste-zero page at text);
       ends = omega (arith, none);
-    }
-
-pub text_put : (page : List ℕ) (at : ℕ) (text : List ℕ) (n : ℕ) (after : List ℕ) → n ≡ fits page at text
-    → after ≡ paste page at text n → Put page at text (at + n) after
-text_put page at text n after all e =
-    record {
-      held = e ∙ ap (paste page at text) all;
-      ends = ap (λ (k : ℕ). at + k) all;
     }
 
 -- a text has no second page and no second end
@@ -128,3 +105,27 @@ module _ (page : List ℕ) (at : ℕ) (a b : List ℕ) where
       by_room : Dec (at ≤ length page) → Put page at (a ++ b) end after
       by_room (yes room) = room_both room (fits page at a) end after refl (rw (h.ends, h.held) at k)
       by_room (no full) = nothing_both (omega (arith, full)) mid end between after h k
+
+-- ---- the same of the type `Page`
+pub puts_none : (p : Page) → Puts p [] p
+puts_none p = record {
+  put = put_none p.bytes.now p.end;
+  same = refl;
+}
+
+pub puts_both : (a b : List ℕ) {p q r : Page} → Puts p a q → Puts q b r → Puts p (a ++ b) r
+puts_both a b {p} h k = record {
+  put = put_both p.bytes.now p.end a b h.put k.put;
+  same = k.same ∙ h.same;
+}
+
+-- a text that equals what was put
+pub puts_same : {a b : List ℕ} {p q : Page} → a ≡ b → Puts p a q → Puts p b q
+puts_same e h = rw e at h
+
+-- no second page is left
+pub no_second_puts : (p : Page) (text : List ℕ) {q q' : Page} → Puts p text q → Puts p text q'
+    → (q.end ≡ q'.end) × (q.bytes.now ≡ q'.bytes.now) × (q.bytes.ghost_name ≡ q'.bytes.ghost_name)
+no_second_puts p text h k =
+    let same = no_second_page p.bytes.now p.end text _ _ _ _ h.put k.put in
+    (same.0, same.1, h.same ∙ sym k.same)

@@ -1,19 +1,16 @@
 -- `plain::one_by_one` meets its contract: it tries one window after the other. Assumes nothing.
-use mathlib.Core.Path.{◌≡◌}
-use Prim.Native.Nat.{◌-◌, ◌≤◌}
+use Prim.Native.Nat.{◌-◌}
 use lib.ListN.{length}
 use Rattle.fit.specs.Place.{windows}
-use Rattle.fit.specs.Spans.{rule_in, Ready}
-use Rattle.fit.specs.Answer.{sought_by, lent}
+use Rattle.fit.specs.Spans.{rule_in}
+use Rattle.fit.specs.Answer.{sought_by}
 use Rattle.fit.specs.Trying.{run}
 use Rattle.fit.proofs.Laws.Tryings.{Trying}
+use Rattle.noting.specs.Lists.{lent_in, Same}
 use Rattle.plain.proofs.one_by_one.Given as goal
 
 abbrev pub invariant-loop-s : goal.invariant-loop-s
 invariant-loop-s l =
-    Ready l.m l.gamma (length l.recording) × (l.count ≡ windows l.m (length l.recording)) × (l.s ≤ l.count)
-    × Trying (sought_by (rule_in l.spans) l.m l.gamma l.recording) (run l.from (windows l.m (length l.recording) - l.from)) (run l.s (l.count - l.s)) l.s (lent l.initial.list l.initial.sums) (lent l.list l.sums)
+    Trying (sought_by (rule_in l.spans.rows) l.spans.m l.gamma l.recording) (run l.from (windows l.spans.m (length l.recording) - l.from)) (run l.s (l.count - l.s)) l.s (lent_in l.initial.lists) (lent_in l.lists)
     l.initial.found l.found
-
-abbrev pub decreases-loop-s : goal.decreases-loop-s
-decreases-loop-s l = l.count - l.s
+    × Same l.initial.lists l.lists

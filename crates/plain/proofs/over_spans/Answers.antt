@@ -1,34 +1,19 @@
 -- `plain::over_spans` meets its contract: it tries every window, by blocks, and then one by one. Assumes nothing.
-use mathlib.Core.Path.{refl}
+use mathlib.Core.Path.{◌≡◌}
+use Prim.Native.Nat.{◌/◌}
 use native.Mathlib.Omega.{arith}
+use Rattle.std.proofs.Common.{rules}
 use Rattle.fit.proofs.Laws.Rules.{by_below}
-use Rattle.fit.proofs.Laws.Runs.{running_begun, running_all, every_tried}
+use Rattle.fit.proofs.Laws.Runs.{running_all, every_tried}
+use Rattle.noting.proofs.Laws.Handing.{same_on}
 use Rattle.plain.proofs.over_spans.Goals as goal
 
-pub loop-s-init : goal.loop-s-init
-loop-s-init c =
-    let known = c.requires in
-    (known.0, c.count_windows-count.ensures, omega arith, known.1, running_begun _ _ known.1)
+pub loop-b-preserved : goal.loop-b-preserved
+loop-b-preserved c =
+    (running_all _ _ _ c.loop-b.invariant.0 _ _ (omega arith) (omega arith) c.try_block-found.ensures.tried, same_on c.loop-b.invariant.1 c.try_block-found.ensures.same)
 
-pub try_block-found-requires : goal.try_block-found-requires
-try_block-found-requires c =
-    let inv = c.loop-s.invariant in record {
-      ready = (inv.0, omega arith);
-      total_le_tried = (inv.4.order, inv.4.room);
-    }
-
-pub loop-s-preserved : goal.loop-s-preserved
-loop-s-preserved c =
-    let inv = c.loop-s.invariant in
-    (inv.0, inv.1, omega arith, inv.3, running_all _ _ _ inv.4 _ _ refl (omega arith) c.try_block-found.ensures)
-
-pub one_by_one-requires : goal.one_by_one-requires
-one_by_one-requires c = let inv = c.loop-s.invariant in record {
-  ready = (inv.0, omega arith);
-  total_le_tried = (inv.4.order, inv.4.room);
-}
-
-pub returns : goal.returns
-returns c =
-    let inv = c.loop-s.invariant in
-    every_tried _ (λ s p. by_below _ _ _ _ s p) inv.3 (inv.4.rest _ _ c.one_by_one.ensures)
+pub returns-clause-answer : goal.returns-clause-answer
+returns-clause-answer c =
+    let all : c.loop-b.b ≡ c.count_windows-count.result / 64 = omega arith in
+    let inv = rw all at c.loop-b.invariant.0 in
+    every_tried _ (λ s p. by_below _ _ _ _ s p) (search rules) (inv.rest _ _ c.one_by_one.ensures.tried)

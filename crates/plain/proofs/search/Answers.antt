@@ -1,25 +1,29 @@
 -- `plain::search` meets its contract: refused as it begins, or as the search over spans answers. Assumes nothing.
-use mathlib.Core.Path.{refl}
-use Rattle.fit.proofs.Laws.Answers.{refused}
-use Rattle.limits.proofs.Laws.Constructed.{told_spans}
-use Rattle.limits.proofs.Laws.Openings.{begins, underway, may_compile}
+use Rattle.std.proofs.Common.{rules}
+use mathlib.Core.Path.{◌≡◌, refl, ◌∙◌}
+use lib.ListN.{length}
 use Rattle.fit.proofs.Laws.Compiled.{ready, compiled_answer_lem}
+use Rattle.fit.proofs.Laws.Refused.{handed_search}
+use Rattle.limits.proofs.Laws.Constructed.{told_spans}
+use Rattle.limits.proofs.Laws.Openings.{passed, may_compile}
 use Rattle.plain.proofs.search.Goals as goal
 
-pub returns-then-found-ne0 : goal.returns-then-found-ne0
-returns-then-found-ne0 c = refused _ _ _ _ (begins _ _ _ _ c.checked_search-checked.ensures c.begin-found.ensures) c.if-found-ne0.true
+pub returns-in_err-checked : goal.returns-in_err-checked
+returns-in_err-checked c = handed_search _ _ _ _ _ _ c.from_residual.ensures.1 c.in_err-checked.ensures
 
 pub spans_of-spans-requires : goal.spans_of-spans-requires
 spans_of-spans-requires c =
-    let known = underway _ _ _ _ c.checked_search-checked.ensures c.begin-found.ensures c.if-found-ne0.false in
-    may_compile _ _ _ known.ok.asked known.carries c.d-d.ensures
+    let known = passed _ _ _ _ c.in_ok-checked.ensures in
+    may_compile _ _ _ known.ok.asked known.carries c.d.ensures
 
 pub over_spans-requires : goal.over_spans-requires
 over_spans-requires c =
-    let known = underway _ _ _ _ c.checked_search-checked.ensures c.begin-found.ensures c.if-found-ne0.false in
-    (ready _ _ _ _ known.ok, known.none)
+    let known = passed _ _ _ _ c.in_ok-checked.ensures in
+    rw (c.spans_of-spans.ensures.points, known.carries.profile.m_is) (ready _ _ _ _ known.ok)
 
 pub returns : goal.returns
 returns c =
-    let known = underway _ _ _ _ c.checked_search-checked.ensures c.begin-found.ensures c.if-found-ne0.false in
-    compiled_answer_lem _ _ _ _ _ (told_spans _ _ _ known.carries c.d-d.ensures c.spans_of-spans.ensures) known.ok _ _ refl c.over_spans.ensures
+    let known = passed _ _ _ _ c.in_ok-checked.ensures in
+    let long : c.spans_of-spans.result.m ≡ length c.args.points.now = c.spans_of-spans.ensures.points ∙ known.carries.profile.m_is in
+    let answer = compiled_answer_lem c.args.delta c.args.gamma c.args.points.now c.args.recording.now c.spans_of-spans.result.rows (told_spans _ _ _ known.carries known.ok.asked.few c.d.ensures c.spans_of-spans.ensures.rows) known.ok _ _ refl (rw long at c.over_spans.ensures.answer) in
+    search rules

@@ -5,23 +5,20 @@ use native.Mathlib.Omega.{arith}
 use Rattle.probe.proofs.Laws.Arounds.{all_marks, none_marks}
 use Rattle.probe.proofs.fitting.Goals as goal
 
-pub loop-k-init : goal.loop-k-init
-loop-k-init c = (omega arith, omega arith, λ fit t a. a)
-
 pub returns-then-mask-eq0 : goal.returns-then-mask-eq0
 returns-then-mask-eq0 c =
     let none : c.loop-k.mask ≡ 0 = omega arith in record {
-      by_index = (λ fit table worth. none_marks fit _ _ _ (c.loop-k.k - 1) (omega arith) (rw none at (c.loop-k.invariant.2 fit table worth)));
+      by_index = (λ fit table worth. none_marks fit _ _ _ (c.loop-k.k - 1) (omega arith) (rw none at (c.loop-k.invariant.1 fit table worth)));
       upper_bound = omega arith;
     }
 
 pub loop-k-preserved : goal.loop-k-preserved
 loop-k-preserved c =
     let same : c.loop-k.k + 1 - 1 ≡ c.loop-k.k = omega arith in
-    (omega arith, omega (arith, c.sieve_at-mask.ensures.upper_bound), λ fit table worth. rw same (c.sieve_at-mask.ensures.by_index fit table (c.loop-k.invariant.2 fit table worth)))
+    (omega (arith, c.sieve_at-mask.ensures.upper_bound), λ fit table worth. rw same (c.sieve_at-mask.ensures.by_index fit table (c.loop-k.invariant.1 fit table worth)))
 
 pub returns : goal.returns
 returns c = record {
-  by_index = (λ fit table worth. all_marks fit _ _ _ (c.loop-k.k - 1) _ (omega arith) (omega arith) (c.loop-k.invariant.2 fit table worth));
-  upper_bound = c.loop-k.invariant.1;
+  by_index = (λ fit table worth. all_marks fit _ _ _ (c.loop-k.k - 1) _ (omega arith) (omega arith) (c.loop-k.invariant.1 fit table worth));
+  upper_bound = c.loop-k.invariant.0;
 }

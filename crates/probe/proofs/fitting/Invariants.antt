@@ -7,8 +7,5 @@ use Rattle.probe.proofs.fitting.Given as goal
 
 abbrev pub invariant-loop-k : goal.invariant-loop-k
 invariant-loop-k l =
-    (2 ≤ l.k) × (l.mask ≤ l.worth)
-    × ((fit : ℕ → ℕ → Bool) → MarkTable l.m fit l.near → Marks l.m (around_suits fit l.m l.recording l.q 1) l.worth → Marks l.m (around_suits fit l.m l.recording l.q (l.k - 1)) l.mask)
-
-abbrev pub decreases-loop-k : goal.decreases-loop-k
-decreases-loop-k l = l.m - l.k
+    (l.mask ≤ l.worth)
+    × ((fit : ℕ → ℕ → Bool) → MarkTable l.near.m fit l.near.masks → Marks l.near.m (around_suits fit l.near.m l.recording l.q 1) l.worth → Marks l.near.m (around_suits fit l.near.m l.recording l.q (l.k - 1)) l.mask)

@@ -109,3 +109,6 @@ module _ (delta gamma : ℕ) (x : List ℕ) (p : ℕ) where
   pub mismatch_joined : mismatch_refusal delta gamma x p ≡ or_else (question_refusal delta gamma x) (of_point (length x) p)
   unfolding mismatch_refusal question_refusal of_point
   mismatch_joined = joined (question_reasons delta gamma x) (no_point (length x) p ∷ []) refl
+
+pub mismatch_none : {delta gamma : ℕ} {x : List ℕ} {p : ℕ} → MismatchAsked delta gamma x p → mismatch_refusal delta gamma x p ≡ 0
+mismatch_none {delta} {gamma} {x} {p} ok = (mismatch_none_exactly delta gamma x p).1 ok

@@ -1,107 +1,88 @@
 -- What a question answers of its checked input: refused by its number, or the jump that its rule has. One law each, for every question.
 -- Assumes nothing.
-use Prim.Native.Nat.{ℕ, zero, suc}
+use Prim.Native.Nat.{ℕ}
 use mathlib.Core.Path.{◌≡◌, refl, sym, ap, ap₂, ◌∙◌}
 use mathlib.Core.List.{List}
-use lib.ListN.{length, replicate}
+use native.Mathlib.Omega.{arith}
+use lib.ListN.{length}
+use Rattle.std.specs.Prelude.{Result, Ok, Err}
+use Rattle.std.specs.Result.{IsErrAnd}
+use Rattle.std.proofs.lemmas.Result.{err_from_is_err_and}
 use Rattle.fit.specs.Place.{d_of}
-use Rattle.fit.specs.Spans.{spans_of}
 use Rattle.fit.specs.Refusal.{or_else, question_refusal, Asked}
-use Rattle.limits.specs.Made.{points_of, question_checked}
-use Rattle.limits.specs.declared.Checked.{Checked}
-use Rattle.limits.proofs.Laws.Constructed.{Carries, question_carries, told_d, told_spans}
+use Rattle.fit.specs.Refused.{number_of, refusal_of, Gives}
+use Rattle.fit.specs.Spans.{spans_of}
+use Rattle.fit.specs.declared.refusal.Refusal.{Refusal}
 use Rattle.fit.proofs.Laws.Refusals.{asked_accepted}
-use Rattle.limits.proofs.Laws.Openings.{Posed, posed}
+use Rattle.fit.proofs.Laws.Refused.{number_some, number_only, refusal_given}
+use Rattle.limits.specs.Made.{points_of, Carries}
+use Rattle.limits.specs.declared.checked.Checked.{Checked}
+use Rattle.limits.proofs.Laws.Constructed.{told_d, told_spans}
+use Rattle.limits.proofs.Laws.Openings.{posed}
+use Rattle.spans.specs.declared.Spans.{Spans}
 use Rattle.tables.specs.Holding.{Usable}
 use Rattle.tables.proofs.Laws.Holdings.{usable}
 use Rattle.questions.specs.declared.Jump.{Jump}
-use Rattle.questions.specs.declared.Compiled.{Compiled}
-use Rattle.questions.specs.Asking.{jump_answer, compiled_answer, of_point, mismatch_refusal}
+use Rattle.questions.specs.Asking.{Compiles, jump_of, jump_answer, of_point, mismatch_refusal}
 use Rattle.questions.proofs.Laws.Askings.{refused_is, granted_is, MismatchAsked, mismatch_past, mismatch_joined}
 
--- by the number that the code has, which is the number of the refusal
-pub refused : (num number k : ℕ) {r : Jump} → number ≡ num → (number ≡ 0 → ⊥) → r ≡ record { refusal = number; jump = 0 } → r ≡ jump_answer num k
-refused num number k e h q = q ∙ refused_is number k h ∙ ap (λ (n : ℕ). jump_answer n k) e
+-- ---- the numbers alone tell an answer, so there is no second
+jump_only : (r r' : Result ℕ Refusal) → jump_of r ≡ jump_of r' → r ≡ r'
+jump_only (Ok k) (Ok k') e = ap (λ (j : ℕ). Ok j) (ap (λ (j : Jump). j.jump) e)
+jump_only (Ok k) (Err e') e = absurd (omega (arith, number_some e', ap (λ (j : Jump). j.refusal) e))
+jump_only (Err d) (Ok k') e = absurd (omega (arith, number_some d, ap (λ (j : Jump). j.refusal) e))
+jump_only (Err d) (Err e') e = ap (λ (u : Refusal). Err u) (number_only d e' (ap (λ (j : Jump). j.refusal) e))
 
-pub granted : (num number j k : ℕ) → number ≡ num → number ≡ 0 → j ≡ k → ◌≡◌ {A = Jump} (record { refusal = 0; jump = j }) (jump_answer num k)
-granted num number j k e z q =
-    ap (λ (i : ℕ). record { refusal = 0; jump = i }) q ∙ ap (λ (n : ℕ). record { refusal = n; jump = k }) (sym z) ∙ granted_is number k z
-    ∙ ap (λ (n : ℕ). jump_answer n k) e
+pub no_second_jump : (definition : Jump) (r r' : Result ℕ Refusal) → jump_of r ≡ definition → jump_of r' ≡ definition → r ≡ r'
+no_second_jump definition r r' e e' = jump_only r r' (e ∙ sym e')
 
--- ---- what the questions about one reading go by
-uncompiled_is : (number : ℕ) (spans : List ℕ) → (number ≡ 0 → ⊥)
-    → ◌≡◌ {A = Compiled} (record { refusal = number; spans = replicate 256 0 }) (compiled_answer number spans)
-unfolding compiled_answer
-uncompiled_is zero spans h = absurd (h refl)
-uncompiled_is (suc num) spans h = refl
+-- ---- a refusal that is handed on has the number that it had
+pub handed_jump : (num k : ℕ) (r : Result ℕ Refusal) (e : Refusal) → IsErrAnd r (λ x. x ≡ e) → number_of e ≡ num → jump_of r ≡ jump_answer num k
+handed_jump num k r e q h =
+    let p = err_from_is_err_and r q in
+    rw (p.1, p.2) (refused_is (number_of e) k (λ z. omega (arith, number_some e, z)) ∙ ap (λ (n : ℕ). jump_answer n k) h)
 
-compiled_refusal : (num : ℕ) (spans : List ℕ) → (compiled_answer num spans).refusal ≡ num
-unfolding compiled_answer
-compiled_refusal zero spans = refl
-compiled_refusal (suc num) spans = refl
+-- not refused, the jump
+pub granted : (num j k : ℕ) → num ≡ 0 → j ≡ k → jump_of (Ok j) ≡ jump_answer num k
+granted num j k z q = rw q (sym (ap (λ (n : ℕ). record { refusal = n; jump = k }) z) ∙ granted_is num k z)
 
-compiled_spans : (num : ℕ) (spans : List ℕ) → num ≡ 0 → (compiled_answer num spans).spans ≡ spans
-unfolding compiled_answer
-compiled_spans num spans z = rw z
+-- ---- a question about one reading, by what the spans of its profile answer
+module _ (delta gamma : ℕ) (x : List ℕ) where
+  pub reading_refused : (k : ℕ) (e : Refusal) → Gives (question_refusal delta gamma x) (Compiles (d_of delta gamma) x) (Err e)
+      → jump_of (Err e) ≡ jump_answer (question_refusal delta gamma x) k
+  reading_refused k e h = handed_jump (question_refusal delta gamma x) k (Err e) e refl h
 
--- not refused, the spans of an accepted profile
-pub record Spanned (delta gamma : ℕ) (x spans : List ℕ) : Type 0 where
-  pub ok : Asked delta gamma x
-  pub made : spans ≡ spans_of (d_of delta gamma) x
+  pub reading_granted : (j k : ℕ) (s : Spans) → Gives (question_refusal delta gamma x) (Compiles (d_of delta gamma) x) (Ok s)
+      → (Asked delta gamma x → Compiles (d_of delta gamma) x s → j ≡ k) → jump_of (Ok j) ≡ jump_answer (question_refusal delta gamma x) k
+  reading_granted j k s h f = granted (question_refusal delta gamma x) j k h.0 (f (asked_accepted delta gamma x h.0) h.1)
 
-module _ (delta gamma : ℕ) (x : List ℕ) {c : Compiled} (e : c ≡ compiled_answer (question_refusal delta gamma x) (spans_of (d_of delta gamma) x)) where
-  told_number : c.refusal ≡ question_refusal delta gamma x
-  told_number = ap (λ (k : Compiled). k.refusal) e ∙ compiled_refusal _ _
+-- the number of the mismatch question, by that of its checked input
+pub mismatch_number : (delta gamma : ℕ) (x : List ℕ) (q : Result Checked Refusal) → Gives (question_refusal delta gamma x) (Carries delta gamma x) q
+    → (p num late : ℕ) → late ≡ of_point (length x) p → num ≡ or_else (refusal_of q) late → num ≡ mismatch_refusal delta gamma x p
+mismatch_number delta gamma x q a p num late l joined =
+    joined ∙ ap₂ or_else (refusal_given _ (Carries delta gamma x) q a) l ∙ sym (mismatch_joined delta gamma x p)
 
-  pub reading_refused : (k : ℕ) {r : Jump} → (c.refusal ≡ 0 → ⊥) → r ≡ record { refusal = c.refusal; jump = 0 } → r ≡ jump_answer (question_refusal delta gamma x) k
-  reading_refused k h a = refused _ _ k told_number h a
+-- ---- what a question knows past its refusals: it has what its rule needs
+module _ (delta gamma : ℕ) (x : List ℕ) where
+  pub question_usable : {q : Checked} → (question_refusal delta gamma x ≡ 0) × Carries delta gamma x q → (d : ℕ) → d ≡ d_of q.tolerance.delta q.tolerance.gamma → Usable d x
+  question_usable e d t = let p = posed delta gamma x e in usable delta gamma x d (told_d delta gamma x p.carries t) p.ok
 
-  module _ (z : c.refusal ≡ 0) where
-    pub spanned : Spanned delta gamma x c.spans
-    spanned =
-        let none = sym told_number ∙ z in
-        let ok = asked_accepted delta gamma x none in
-        let made = ap (λ (k : Compiled). k.spans) e ∙ compiled_spans _ _ none in
-        record { ok = ok; made = made }
+  pub compiled : {q : Checked} → (question_refusal delta gamma x ≡ 0) × Carries delta gamma x q → {d m : ℕ} {rows : List ℕ} → d ≡ d_of q.tolerance.delta q.tolerance.gamma
+      → rows ≡ spans_of d (points_of q.profile) → m ≡ q.profile.m → (rows ≡ spans_of (d_of delta gamma) x) × (m ≡ length x)
+  compiled e t r m = let p = posed delta gamma x e in (told_spans delta gamma x p.carries p.ok.few t r, m ∙ p.carries.profile.m_is)
 
-    pub reading_granted : (j k : ℕ) → (Spanned delta gamma x c.spans → j ≡ k) → ◌≡◌ {A = Jump} (record { refusal = 0; jump = j }) (jump_answer (question_refusal delta gamma x) k)
-    reading_granted j k f = granted _ _ j k told_number z (f spanned)
-
--- ---- a question over its checked input
-module _ (delta gamma : ℕ) (x : List ℕ) {q : Checked} (e : q ≡ question_checked delta gamma x) where
-  number_is : q.refusal ≡ question_refusal delta gamma x
-  number_is = ap (λ (c : Checked). c.refusal) e
-
-  pub question_refused : (k : ℕ) {r : Jump} → (q.refusal ≡ 0 → ⊥) → r ≡ record { refusal = q.refusal; jump = 0 } → r ≡ jump_answer (question_refusal delta gamma x) k
-  question_refused k h a = refused _ _ k number_is h a
-
-  pub compiled_none : (q.refusal ≡ 0 → ⊥)
-      → ◌≡◌ {A = Compiled} (record { refusal = q.refusal; spans = replicate 256 0 }) (compiled_answer (question_refusal delta gamma x) (spans_of (d_of delta gamma) x))
-  compiled_none h = uncompiled_is q.refusal (spans_of (d_of delta gamma) x) h ∙ ap (λ (n : ℕ). compiled_answer n (spans_of (d_of delta gamma) x)) number_is
-
-  pub mismatch_number : (p num late : ℕ) → late ≡ of_point (length x) p → num ≡ or_else q.refusal late → num ≡ mismatch_refusal delta gamma x p
-  mismatch_number p num late l n = n ∙ ap₂ or_else number_is l ∙ sym (mismatch_joined delta gamma x p)
-
-  -- not refused, it has what its rule needs
-  module _ (z : q.refusal ≡ 0) where
-    pub question_granted : (j k : ℕ) → (Posed delta gamma x q → j ≡ k) → ◌≡◌ {A = Jump} (record { refusal = 0; jump = j }) (jump_answer (question_refusal delta gamma x) k)
-    question_granted j k f = granted _ _ j k number_is z (f (posed delta gamma x e z))
-
-    pub question_usable : (d : ℕ) → d ≡ d_of q.tolerance.delta q.tolerance.gamma → Usable d x
-    question_usable d t = let p = posed delta gamma x e z in usable delta gamma x d (told_d delta gamma x p.carries t) p.ok
-
-    pub compiled_made : (d : ℕ) (spans : List ℕ) → d ≡ d_of q.tolerance.delta q.tolerance.gamma → spans ≡ spans_of d (points_of q.profile)
-        → ◌≡◌ {A = Compiled} (record { refusal = 0; spans = spans }) (compiled_answer (question_refusal delta gamma x) (spans_of (d_of delta gamma) x))
-    unfolding compiled_answer
-    compiled_made d spans t s = let p = posed delta gamma x e z in rw (sym number_is ∙ z, told_spans delta gamma x p.carries t s)
+  -- of an accepted profile
+  pub spanned_asked : {s : Spans} → (question_refusal delta gamma x ≡ 0) × Compiles (d_of delta gamma) x s → Asked delta gamma x
+  spanned_asked e = asked_accepted delta gamma x e.0
 
 -- what the mismatch question knows past its refusals
 pub record MismatchPosed (delta gamma : ℕ) (x : List ℕ) (p : ℕ) (q : Checked) : Type 0 where
   pub ok : MismatchAsked delta gamma x p
   pub carries : Carries delta gamma x q
 
-pub mismatch_posed : (delta gamma : ℕ) (x : List ℕ) {q : Checked} → q ≡ question_checked delta gamma x → (p num : ℕ) → num ≡ mismatch_refusal delta gamma x p
-    → num ≡ 0 → MismatchPosed delta gamma x p q
-mismatch_posed delta gamma x e p num n z =
-    let ok = mismatch_past delta gamma x p num n z in
-    record { ok = ok; carries = question_carries delta gamma x e ok.asked }
+pub mismatch_posed : (delta gamma : ℕ) (x : List ℕ) {q : Checked} → (question_refusal delta gamma x ≡ 0) × Carries delta gamma x q → (p : ℕ) → 0 ≡ of_point (length x) p
+    → MismatchPosed delta gamma x p q
+unfolding or_else
+mismatch_posed delta gamma x e p w =
+    let none : mismatch_refusal delta gamma x p ≡ 0 = mismatch_joined delta gamma x p ∙ ap₂ or_else e.0 (sym w) in
+    record { ok = mismatch_past delta gamma x p 0 (sym none) refl; carries = e.1 }

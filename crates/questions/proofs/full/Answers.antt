@@ -2,18 +2,16 @@
 use mathlib.Core.Path.{ap, ◌∙◌}
 use Rattle.limits.proofs.Laws.Constructed.{told_d}
 use Rattle.jumps.specs.Jumps.{full_jump}
-use Rattle.questions.proofs.Laws.Replies.{question_refused, question_granted, question_usable}
+use Rattle.questions.proofs.Laws.Replies.{handed_jump, granted, question_usable}
 use Rattle.questions.proofs.full.Goals as goal
 
-pub returns-then-checked-ne0 : goal.returns-then-checked-ne0
-returns-then-checked-ne0 c = question_refused _ _ _ c.checked_question-checked.ensures _ c.if-checked-ne0.true c.refused.ensures
+pub returns-in_err-checked : goal.returns-in_err-checked
+returns-in_err-checked c = handed_jump _ _ _ _ c.from_residual.ensures.1 c.in_err-checked.ensures
 
-pub full_jump-requires : goal.full_jump-requires
-full_jump-requires c =
-    question_usable _ _ _ c.checked_question-checked.ensures c.if-checked-ne0.false _ c.d-d.ensures
+pub invariant_of-full_jump : goal.invariant_of-full_jump
+invariant_of-full_jump c = record { usable = question_usable _ _ _ c.in_ok-checked.ensures _ c.d-d.ensures }
 
 pub returns : goal.returns
 returns c =
-    let a = c.args in
-    question_granted _ _ _ c.checked_question-checked.ensures c.if-checked-ne0.false _ _ (λ p.
-    c.full_jump.ensures ∙ ap (λ d. full_jump d a.points.now) (told_d _ _ _ p.carries c.d-d.ensures))
+    let at = c.in_ok-checked.ensures in
+    granted _ _ _ at.0 (c.full_jump.ensures ∙ ap (λ d. full_jump d c.args.points.now) (told_d _ _ _ at.1 c.d-d.ensures))

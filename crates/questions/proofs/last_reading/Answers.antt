@@ -1,16 +1,18 @@
 -- `last_reading` meets its contract: refused, or the jump over the spans, which is that of the points. Assumes nothing.
-use mathlib.Core.Path.{◌∙◌}
+use Prim.Native.Nat.{ℕ}
+use mathlib.Core.Path.{ap, ◌∙◌}
+use Rattle.fit.specs.Spans.{rule_in}
+use Rattle.jumps.specs.Jumps.{last_jump}
 use Rattle.jumps.proofs.Laws.OverSpans.{last_over_spans}
-use Rattle.questions.proofs.Laws.Replies.{reading_refused, spanned, reading_granted}
+use Rattle.questions.proofs.Laws.Replies.{handed_jump, granted, spanned_asked}
 use Rattle.questions.proofs.last_reading.Goals as goal
 
-pub returns-then-compiled-ne0 : goal.returns-then-compiled-ne0
-returns-then-compiled-ne0 c = reading_refused _ _ _ c.compile-compiled.ensures _ c.if-compiled-ne0.true c.refused.ensures
-
-pub last_jump-requires : goal.last_jump-requires
-last_jump-requires c = let at = spanned _ _ _ c.compile-compiled.ensures c.if-compiled-ne0.false in at.ok.few
+pub returns-in_err-spans : goal.returns-in_err-spans
+returns-in_err-spans c = handed_jump _ _ _ _ c.from_residual.ensures.1 c.in_err-spans.ensures
 
 pub returns : goal.returns
 returns c =
-    reading_granted _ _ _ c.compile-compiled.ensures c.if-compiled-ne0.false _ _ (λ at.
-    c.last_jump.ensures.0 ∙ last_over_spans _ _ _ _ at.made at.ok _)
+    let at = c.in_ok-spans.ensures in
+    granted _ _ _ at.0
+    (c.last_jump.ensures.0 ∙ ap (λ (m : ℕ). last_jump (rule_in c.in_ok-spans.spans.rows).fit m c.args.a) at.1.points
+    ∙ last_over_spans _ _ _ _ at.1.rows (spanned_asked _ _ _ at) _)

@@ -2,32 +2,39 @@
 use Prim.Native.Nat.{◌-◌}
 use mathlib.Core.Path.{ap, ◌∙◌}
 use native.Mathlib.Omega.{arith}
-use Rattle.limits.proofs.Laws.Constructed.{told_d}
+use Rattle.limits.proofs.Laws.Constructed.{told_d, told_first, told_later}
 use Rattle.jumps.specs.Jumps.{mismatch_jump}
 use Rattle.tables.proofs.Laws.Holdings.{usable}
-use Rattle.questions.proofs.Laws.Replies.{refused, granted, mismatch_number, mismatch_posed}
+use Rattle.questions.proofs.Laws.Askings.{mismatch_joined, mismatch_none}
+use Rattle.questions.proofs.Laws.Replies.{handed_jump, granted, mismatch_posed}
 use Rattle.questions.proofs.mismatch.Goals as goal
 
-pub returns-then-number-ne0 : goal.returns-then-number-ne0
-returns-then-number-ne0 c = refused _ _ _ (mismatch_number _ _ _ c.checked_question-checked.ensures _ _ _ c.of_point.ensures c.or_else-number.ensures) c.if-number-ne0.true c.refused.ensures
+pub returns-in_err-checked : goal.returns-in_err-checked
+returns-in_err-checked c =
+    handed_jump _ _ _ _ c.from_residual.ensures.1 (told_first _ _ _ _ (mismatch_joined _ _ _ _) c.in_err-checked.ensures)
 
-pub compared_of-compared-requires : goal.compared_of-compared-requires
-compared_of-compared-requires c =
-    let at = mismatch_posed _ _ _ c.checked_question-checked.ensures _ _ ((mismatch_number _ _ _ c.checked_question-checked.ensures _ _ _ c.of_point.ensures c.or_else-number.ensures)) c.if-number-ne0.false in
-    usable _ _ _ _ (told_d _ _ _ at.carries c.d.ensures) at.ok.asked
+pub returns-in_err-of_point : goal.returns-in_err-of_point
+returns-in_err-of_point c =
+    handed_jump _ _ _ _ c.from_residual-in_err-of_point.ensures.1
+    (told_later _ _ _ _ (mismatch_joined _ _ _ _) c.in_ok-checked.ensures.0 c.in_err-of_point.ensures)
+
+pub invariant_of-compared_of : goal.invariant_of-compared_of
+invariant_of-compared_of c =
+    let at = mismatch_posed _ _ _ c.in_ok-checked.ensures _ c.in_ok-of_point.ensures in
+    record { usable = usable _ _ _ _ (told_d _ _ _ at.carries c.d-d.ensures) at.ok.asked }
 
 pub overflow_sub-p : goal.overflow_sub-p
-overflow_sub-p c = (mismatch_posed _ _ _ c.checked_question-checked.ensures _ _ ((mismatch_number _ _ _ c.checked_question-checked.ensures _ _ _ c.of_point.ensures c.or_else-number.ensures)) c.if-number-ne0.false).ok.from_one
+overflow_sub-p c = (mismatch_posed _ _ _ c.in_ok-checked.ensures _ c.in_ok-of_point.ensures).ok.from_one
 
 pub bounds-compared-p : goal.bounds-compared-p
 bounds-compared-p c =
-    let at = mismatch_posed _ _ _ c.checked_question-checked.ensures _ _ ((mismatch_number _ _ _ c.checked_question-checked.ensures _ _ _ c.of_point.ensures c.or_else-number.ensures)) c.if-number-ne0.false in
+    let at = mismatch_posed _ _ _ c.in_ok-checked.ensures _ c.in_ok-of_point.ensures in
     omega (arith, at.ok.from_one, at.ok.to_last, at.ok.asked.few)
 
 pub returns : goal.returns
 returns c =
-    let at = mismatch_posed _ _ _ c.checked_question-checked.ensures _ _ ((mismatch_number _ _ _ c.checked_question-checked.ensures _ _ _ c.of_point.ensures c.or_else-number.ensures)) c.if-number-ne0.false in
-    let a = c.args in
-    granted _ _ _ _ (mismatch_number _ _ _ c.checked_question-checked.ensures _ _ _ c.of_point.ensures c.or_else-number.ensures) c.if-number-ne0.false
-    (c.index.ensures.0 ∙ c.compared_of-compared.ensures.1.at (a.p - 1) (omega (arith, at.ok.from_one, at.ok.to_last))
-    ∙ ap (λ d. mismatch_jump d a.points.now (a.p - 1)) (told_d _ _ _ at.carries c.d.ensures))
+    let at = mismatch_posed _ _ _ c.in_ok-checked.ensures _ c.in_ok-of_point.ensures in
+    let p = c.args.p in
+    granted _ _ _ (mismatch_none at.ok)
+    (c.from.ensures ∙ c.compared_of-compared.ensures.1.at (p - 1) (omega (arith, at.ok.from_one, at.ok.to_last))
+    ∙ ap (λ d. mismatch_jump d c.args.points.now (p - 1)) (told_d _ _ _ at.carries c.d-d.ensures))

@@ -1,12 +1,13 @@
 -- `reading::is_near` meets its contract: what is below the lowest reading is near to no point; of any other, a + d - p decides. Assumes nothing.
-use Rattle.std.proofs.Common.{◌≡◌, ℕ, ◌+◌, ◌*◌, ◌%◌, ◌^◌, ◌<◌, ◌≤◌, false, leb, sym, ◌∙◌, arith, le-leb, leb-true}
+use Rattle.std.proofs.Common.{◌≡◌, ℕ, ◌+◌, ◌-◌, ◌*◌, ◌%◌, ◌^◌, ◌<◌, ◌≤◌, false, leb, sym, ◌∙◌, arith, le-leb, leb-true}
 use borrow.Author.Tests.{lt-leb}
 use Rattle.fit.specs.Reading.{diff, near}
 use Rattle.fit.proofs.Laws.Bools.{same_test}
 use Rattle.reading.proofs.is_near.Goals as goal
 
-reached : (d p a r : ℕ) → d < 2 ^ 32 → p < 2 ^ 8 → a < 2 ^ 8 → r < 2 ^ 64 → (r + p) % 2 ^ 64 ≡ a + d → leb r (2 * d) ≡ leb (diff p a) d
-reached d p a r hd hp ha hr e =
+reached : (d p a : ℕ) → d < 2 ^ 32 → p < 2 ^ 8 → a < 2 ^ 8 → leb ((a + d + (2 ^ 64 - p)) % 2 ^ 64) (2 * d) ≡ leb (diff p a) d
+reached d p a hd hp ha =
+    let r = (a + d + (2 ^ 64 - p)) % 2 ^ 64 in
     same_test (leb r (2 * d)) (leb (diff p a) d) (λ t. le-leb (diff p a) d (omega (arith, leb-true r (2 * d) t)))
     (λ t. le-leb r (2 * d) (omega (arith, leb-true (diff p a) d t)))
 
@@ -24,5 +25,5 @@ returns-then-a-lt-LOWEST c = let a = c.args in sym (lost a.d a.p a.a c.if-a-lt-L
 pub returns : goal.returns
 returns c =
     let a = c.args in
-    reached a.d a.p a.a _ (omega arith) (omega arith) (omega arith) (omega arith) c.wrapping_sub_u64.ensures.value
-    ∙ sym (told a.d a.p a.a c.if-a-lt-LOWEST.false)
+    rw (c.from.ensures, c.from-reach.ensures, c.from-2.ensures) (reached a.d a.p a.a (omega arith) (omega arith) (omega arith)
+    ∙ sym (told a.d a.p a.a c.if-a-lt-LOWEST.false))

@@ -1,6 +1,7 @@
 -- Laws of the report: each line tells what its searcher answers, and the list holds every place. Assumes nothing.
 use Prim.Native.Nat.{ℕ, zero, suc, ◌≤◌}
-use mathlib.Core.Path.{◌≡◌, refl, sym, ap, ◌∙◌}
+use Rattle.std.specs.Prelude.{Ok, Err}
+use mathlib.Core.Path.{◌≡◌, refl, ap}
 use mathlib.Core.List.{List}
 use native.Mathlib.Omega.{arith}
 use lib.ListN.{length, take, drop}
@@ -12,20 +13,24 @@ use Rattle.fit.specs.declared.answer.Search.{Search}
 use Rattle.fit.proofs.Laws.Listings.{overlay_is, length_overlay}
 use Rattle.fit.proofs.Laws.Refusals.{none_exactly}
 use Rattle.fit.proofs.Laws.Answers.{places_short, answer_accepted, answer_refused}
-use Rattle.input.specs.Inputs.{of_input, points_in, recording_in, front_of}
-use Rattle.input.specs.declared.Front.{Front}
-use Rattle.input.proofs.Laws.Parses.{front_number, front_good, front_read}
-use Rattle.page.specs.Put.{Put}
+use Rattle.input.specs.Inputs.{of_input}
+use Rattle.input.specs.Told.{Parsed}
+use Rattle.input.specs.declared.Input.{Input}
+use Rattle.fit.specs.Refused.{number_of}
+use Rattle.fit.specs.declared.refusal.Refusal.{Refusal}
+use Rattle.fit.proofs.Laws.Refused.{number_some}
+use Rattle.input.proofs.Laws.Parses.{parse_refused, parse_accepted, parse_read}
+use Rattle.page.specs.Puts.{Puts}
+use Rattle.page.specs.declared.Page.{Page}
 use Rattle.lines.specs.Lines.{refused_line, line_of, lines_of}
-use Rattle.report.specs.Report.{input_name, found_by, report_on, report_by, report_of}
+use Rattle.report.specs.Report.{input_name, found_by, report_for, report_by, report_of}
 
 -- the line of an answer is the line of what it equals
-pub told_as : (page : List ℕ) (at : ℕ) (name : List ℕ) {found r : Search} {end : ℕ} {after : List ℕ} → found ≡ r
-    → Put page at (line_of name found) end after → Put page at (line_of name r) end after
-told_as page at name e h = rw e at h
+pub told_as : (name : List ℕ) {found r : Search} {p q : Page} → found ≡ r → Puts p (line_of name found) q → Puts p (line_of name r) q
+told_as name e h = rw e at h
 
-pub listed_as : (page : List ℕ) (at : ℕ) {ps qs : List ℕ} {end : ℕ} {after : List ℕ} → ps ≡ qs → Put page at (lines_of ps) end after → Put page at (lines_of qs) end after
-listed_as page at e h = rw e at h
+pub listed_as : {ps qs : List ℕ} {p q : Page} → ps ≡ qs → Puts p (lines_of ps) q → Puts p (lines_of qs) q
+listed_as e h = rw e at h
 
 -- ---- the places are read back from the list
 overlay_held : (ps entry : List ℕ) → length ps ≤ length entry → take (length ps) (overlay ps entry) ≡ ps
@@ -50,18 +55,17 @@ module _ (delta gamma : ℕ) (x y : List ℕ) (tried : ℕ) (entry final : Lent)
           (omega (arith, total), rw total)
 
 -- ---- the whole input
-module _ (input : List ℕ) (page : List ℕ) {r : Front} {end : ℕ} {after : List ℕ} (e : r ≡ front_of input) where
-  pub refused_report : (r.refusal ≡ 0 → ⊥) → Put page 0 (refused_line input_name r.refusal) end after → Put page 0 (report_of input) end after
+module _ (input : List ℕ) {p q : Page} where
+  pub refused_report : {r : Refusal} → Parsed input (Err r) → Puts p (refused_line input_name (number_of r)) q → Puts p (report_of input) q
   unfolding report_by
-  refused_report some h = by_number (of_input input) (front_number input e) h
+  refused_report {r} e h = by_number (of_input input) (parse_refused input e)
     where
-      by_number : (num : ℕ) → r.refusal ≡ num → Put page 0 (refused_line input_name r.refusal) end after → Put page 0 (report_by num input) end after
-      by_number zero f k = absurd (some f)
-      by_number (suc num) f k = rw f at k
+      by_number : (num : ℕ) → number_of r ≡ num → Puts p (report_by num input) q
+      by_number zero f = absurd (omega (arith, number_some r, f))
+      by_number (suc num) f = rw f at h
 
-  pub accepted_report : r.refusal ≡ 0 → {x y : List ℕ} → x ≡ points_in input → y ≡ recording_in input
-      → Put page 0 (report_on r.delta r.gamma x y) end after → Put page 0 (report_of input) end after
+  pub accepted_report : {i : Input} → Parsed input (Ok i) → Puts p (report_for i) q → Puts p (report_of input) q
   unfolding report_by
-  accepted_report none f g h =
-      let read = e ∙ front_read input (front_good input e none) in
-      rw (sym (front_number input e) ∙ none, ← ap (λ (v : Front). v.delta) read, ← ap (λ (v : Front). v.gamma) read, ← f, ← g) h
+  accepted_report e h =
+      let read = parse_read input e in
+      rw (parse_accepted input e, ← read.0, ← read.1, ← e.points, ← e.recording) h

@@ -4,7 +4,7 @@ use mathlib.Core.Path.{◌≡◌, refl, sym, ap, ◌∙◌}
 use mathlib.Core.Bool.{true}
 use mathlib.Core.List.{List}
 use Prim.Native.Nat.{ℕ, zero, suc, ◌+◌, ◌-◌, ◌*◌, ◌/◌, ◌%◌, ◌^◌, ◌≤◌, ◌<◌}
-use native.Mathlib.Nat.{add-suc, mod-lt, mul-le-mul_left}
+use native.Mathlib.Nat.{add-suc, mul-le-mul_left}
 use native.Mathlib.Numerals.{add-one}
 use native.Mathlib.Omega.{arith}
 use lib.Arith.{digits_lt}
@@ -69,10 +69,6 @@ zero_above d g x y j (suc i) e = omega (arith, after_next g (added_of d g x) y j
 
 -- ---- the words
 module _ (k : Masks) (ok : Sound k) where
-  -- the last point's counter is one of its word's
-  pub last_inside : (m : ℕ) → ((m - 1) % k.per < k.per) × (k.per ≤ word_bits)
-  last_inside m = (mod-lt (m - 1) ok.some, omega (arith, ok.fit))
-
   -- where a counter begins, and its top bit alone
   module _ (at : ℕ) (h : at < k.per) where
     pub counter_inside : (k.b + 1) * at + k.b < word_bits

@@ -1,7 +1,5 @@
 -- `score::add_point` meets its contract: the windows before j have point i in their scores. Assumes nothing.
-use Prim.Native.Nat.{◌+◌, ◌-◌, ◌<◌}
-use lib.ListN.{length}
-use Rattle.fit.specs.Refusal.{max_points}
+use Prim.Native.Nat.{◌+◌}
 use Rattle.fit.specs.Spans.{rule_in}
 use Rattle.fit.proofs.Laws.Entries.{Rewritten}
 use Rattle.score.specs.Score.{score_after}
@@ -9,8 +7,4 @@ use Rattle.score.proofs.add_point.Given as goal
 
 abbrev pub invariant-loop-j : goal.invariant-loop-j
 invariant-loop-j l =
-    (l.i < max_points) × (l.s + 63 + l.i < length l.recording)
-    × Rewritten (λ k. score_after (rule_in l.spans) l.m l.recording l.i (l.s + k)) (λ k. score_after (rule_in l.spans) l.m l.recording (l.i + 1) (l.s + k)) 64 l.scores l.j
-
-abbrev pub decreases-loop-j : goal.decreases-loop-j
-decreases-loop-j l = 64 - l.j
+    Rewritten (λ k. score_after (rule_in l.spans.rows) l.spans.m l.recording l.i (l.s + k)) (λ k. score_after (rule_in l.spans.rows) l.spans.m l.recording (l.i + 1) (l.s + k)) 64 l.scores l.j

@@ -17,7 +17,7 @@ use Rattle.fit.specs.Listing.Rising.{none}
 use Rattle.fit.proofs.Laws.Bools.{le_or_lt, and_both}
 use Rattle.fit.proofs.Laws.Risings.{in_front, old_front, new_front, rising_front, rising_from, rising_append}
 use Rattle.fit.specs.Answer.{Sought, Lent}
-use Rattle.fit.specs.declared.answer.Search.{Search}
+use Rattle.fit.specs.declared.answer.Found.{Found}
 use Rattle.fit.proofs.Laws.Alongs.{Along, along_same, along_on}
 use Rattle.skip.specs.Walk.{probed, probes, skip_walk}
 use Rattle.fit.specs.Trying.{TriedAll}
@@ -170,7 +170,7 @@ module _ (near : ℕ → ℕ → Bool) (m : ℕ) (y : List ℕ) where
   walk_has s pos inside f = has_probes (length y) (m - 1) s pos (omega arith) (omega arith) inside f
 
 -- ---- a search along the walk, after one probe's windows
-pub along_probe : (t : Sought) (near : ℕ → ℕ → Bool) (m : ℕ) (y : List ℕ) (q : ℕ) {walk : List ℕ} {entry held held' : Lent} {before r : Search}
+pub along_probe : (t : Sought) (near : ℕ → ℕ → Bool) (m : ℕ) (y : List ℕ) (q : ℕ) {walk : List ℕ} {entry held held' : Lent} {before r : Found}
     → 1 ≤ m → m ≤ q + 1 → q < length y → Along t walk (probes near m y (length y - q) q) (q + 1 - m) entry held before
     → TriedAll t (probed near m y q m) before held r held' → Along t walk (probes near m y (length y - (q + m)) (q + m)) (q + m + 1 - m) entry held' r
 along_probe t near m y q pos le h f a =

@@ -1,14 +1,11 @@
 -- `skip::point_by_point` meets its contract: it goes along the walk, probe by probe. Assumes nothing.
-use Prim.Native.Nat.{◌+◌, ◌-◌, ◌≤◌}
-use lib.ListN.{length}
-use Rattle.fit.specs.Spans.{rule_in, Ready}
-use Rattle.fit.specs.Answer.{lent}
+use Prim.Native.Nat.{◌+◌, ◌≤◌}
+use Rattle.fit.specs.Spans.{rule_in}
 use Rattle.skip.proofs.Laws.Searching.{Arrived}
+use Rattle.noting.specs.Lists.{lent_in, Same}
 use Rattle.skip.proofs.point_by_point.Given as goal
 
 abbrev pub invariant-loop-at : goal.invariant-loop-at
 invariant-loop-at l =
-    Ready l.m l.gamma (length l.recording) × (l.m ≤ l.at + 1) × Arrived (rule_in l.spans) l.m l.gamma l.recording (lent l.initial.list l.initial.sums) l.at (lent l.list l.sums) l.found
-
-abbrev pub decreases-loop-at : goal.decreases-loop-at
-decreases-loop-at l = length l.recording - l.at
+    (l.spans.m ≤ l.at + 1) × Arrived (rule_in l.spans.rows) l.spans.m l.gamma l.recording (lent_in l.initial.lists) l.at (lent_in l.lists) l.found
+    × Same l.initial.lists l.lists

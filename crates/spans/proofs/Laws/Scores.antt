@@ -12,7 +12,7 @@ use Rattle.fit.specs.Rule.{Rule, all_fit, sum_cost, is_place_by}
 use Rattle.fit.specs.Verdict.{verdict_by}
 use Rattle.fit.specs.Refusal.{max_gamma}
 use Rattle.fit.specs.Answer.{sought_by, Lent, Noted, Tried}
-use Rattle.fit.specs.declared.answer.Search.{Search}
+use Rattle.fit.specs.declared.answer.Found.{Found}
 use Rattle.fit.proofs.Laws.Bools.{either, same_test}
 use Rattle.fit.proofs.Laws.Rules.{by_within}
 use Rattle.fit.proofs.Laws.Verdicts.{fits_exactly, told_near, told_broken}
@@ -56,7 +56,7 @@ score_sum r m gamma y s inside h e =
     rw ((fits_exactly r m gamma y s inside (sum_cost r.cost y s m)).1 (e, refl)) (omega arith)
 
 -- so a window that is noted by its score is tried
-pub score_tried : (r : Rule) (m gamma : ℕ) (y : List ℕ) (s v : ℕ) {before found : Search} {entry final : Lent} → s + m ≤ length y → gamma ≤ max_gamma
+pub score_tried : (r : Rule) (m gamma : ℕ) (y : List ℕ) (s v : ℕ) {before found : Found} {entry final : Lent} → s + m ≤ length y → gamma ≤ max_gamma
     → v ≡ score_in (verdict_by r m gamma y s) → Noted (leb v gamma) v s before entry found final → Tried (sought_by r m gamma y) s before entry found final
 score_tried r m gamma y s v inside h told n =
     noted_as _ _ _ _ _ _ _ (ap (λ (k : ℕ). leb k gamma) told ∙ score_place r m gamma y s inside h) (λ e. told ∙ score_sum r m gamma y s inside h e) n

@@ -1,11 +1,13 @@
 -- Laws of passed probes: one more, that they are passed in one way alone, and that there is no second stop. Assumes nothing.
-use mathlib.Core.Path.{◌≡◌, refl, sym, subst, ap₂, ◌∙◌}
+use mathlib.Core.Path.{◌≡◌, refl, sym, ap, subst, ap₂, ◌∙◌}
 use mathlib.Core.Bool.{Bool}
 use mathlib.Core.List.{List}
 use Prim.Native.Nat.{ℕ, ◌+◌, ◌≤◌, ◌<◌}
 use native.Mathlib.Omega.{arith}
 use lib.ListN.{length}
 use mathlib.Core.Logic.{⊎_elim}
+use Rattle.std.specs.Prelude.{Option, None, Some, MatchOption}
+use Rattle.std.specs.Option.{unwrap_or}
 use Rattle.fit.proofs.Laws.Bools.{le_or_lt}
 use Rattle.marks.specs.Marks.{Marks}
 use Rattle.marks.proofs.Laws.Marking.{no_second_marks}
@@ -42,3 +44,11 @@ module _ (near : ℕ → ℕ → Bool) (m : ℕ) (y : List ℕ) where
   no_second_stop (more inside clear long p) s (more inside' clear' long' p') s' =
       let rest = no_second_stop p s p' s' in
       (rest.0, ap₂ (λ (a b : ℕ). a + b) (sym long ∙ long') rest.1, rest.2)
+
+-- nor, as it is told, a second mask: where there is none, the stop's is 0
+pub no_second_mask : (P P' Q Q' : Type 0) (o o' : Option ℕ) → MatchOption o P (λ mask. (0 < mask) × Q) → MatchOption o' P' (λ mask. (0 < mask) × Q')
+    → unwrap_or o 0 ≡ unwrap_or o' 0 → o ≡ o'
+no_second_mask P P' Q Q' None None a b e = refl
+no_second_mask P P' Q Q' None (Some mask) a b e = absurd (omega (arith, e, b.0))
+no_second_mask P P' Q Q' (Some mask) None a b e = absurd (omega (arith, e, a.0))
+no_second_mask P P' Q Q' (Some mask) (Some mask') a b e = ap (λ (n : ℕ). Some n) e

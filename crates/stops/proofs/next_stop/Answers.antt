@@ -15,6 +15,7 @@ returns-then-mask-ne0 c =
       by_index = λ fit tables.
           (inv.3 fit tables, record { inside = λ h. (c.worth_a_look-mask.ensures fit tables.marks, omega arith); outside = λ h. absurd (omega arith) });
       from_le_q = (inv.0, inv.1, inv.2);
+      stopped = (omega arith, omega arith);
     }
 
 pub loop-q-preserved : goal.loop-q-preserved
@@ -28,7 +29,7 @@ loop-q-preserved c =
       omega (arith, inv.2, counted.2),
       λ fit tables.
           passed_more fit _ _ (omega arith) (rw none-worth at (c.worth_a_look-mask.ensures fit tables.marks))
-          (probe_count fit given.m given.recording.now _ _ _ _ tables (counted.0, counted.1)) (inv.3 fit tables),
+          (probe_count fit given.near.now.m given.recording.now _ _ _ _ tables (counted.0, counted.1)) (inv.3 fit tables),
     )
 
 pub returns : goal.returns
@@ -36,4 +37,5 @@ returns c =
     let inv = c.loop-q.invariant in record {
       by_index = (λ fit tables. (inv.3 fit tables, record { inside = λ h. absurd (omega arith); outside = λ h. refl }));
       from_le_q = (inv.0, inv.1, inv.2);
+      stopped = omega arith;
     }

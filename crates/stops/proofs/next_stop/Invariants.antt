@@ -9,7 +9,7 @@ use Rattle.stops.proofs.next_stop.Given as goal
 abbrev pub invariant-loop-q : goal.invariant-loop-q
 invariant-loop-q l =
     (l.from ≤ l.q) × (l.q ≤ length l.recording) × (l.windows ≤ highest * l.q)
-    × ((fit : ℕ → ℕ → Bool) → Tables l.m fit l.near l.counts → Passed fit l.m l.recording l.from l.q l.windows)
+    × ((fit : ℕ → ℕ → Bool) → Tables l.near.m fit l.near.masks l.near.counts → Passed fit l.near.m l.recording l.from l.q l.windows)
 
 abbrev pub decreases-loop-q : goal.decreases-loop-q
 decreases-loop-q l = length l.recording - l.q

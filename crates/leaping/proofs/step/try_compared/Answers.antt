@@ -2,12 +2,7 @@
 use Rattle.fit.proofs.Laws.Answers.{noted_miss}
 use Rattle.leaping.proofs.step.try_compared.Goals as goal
 
-pub returns-then-leading-m : goal.returns-then-leading-m
-returns-then-leading-m c =
+pub returns-then-leading-spans-clause-tried : goal.returns-then-leading-spans-clause-tried
+returns-then-leading-spans-clause-tried c =
     let given = c.requires in
-    rw c.note_none.ensures (noted_miss _ _ _ _ _ (given.s_value.0 c.if-leading-m.true))
-
-pub returns : goal.returns
-returns c =
-    let given = c.requires in
-    c.try_fitting.ensures.tried (given.s_value.1 c.if-leading-m.false)
+    rw c.note_none.ensures (noted_miss _ _ _ _ _ (given.s_value.0 c.if-leading-spans.true))

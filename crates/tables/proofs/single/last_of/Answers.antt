@@ -8,7 +8,7 @@ use Rattle.tables.proofs.single.last_of.Goals as goal
 pub returns-then-suits : goal.returns-then-suits
 returns-then-suits c =
     let a = c.args in
-    sym (zero_last_jump (rule_in a.spans.now).fit _ a.a (omega arith) (sym c.suits.ensures ∙ c.if-suits.true))
+    sym (zero_last_jump (rule_in a.spans.now.rows).fit _ a.a (omega arith) (sym c.suits.ensures ∙ c.if-suits.true))
 
 pub returns : goal.returns
 returns c = c.requires.0 ∙ seen_where_far _ _ _ (omega arith) (sym c.suits.ensures ∙ c.if-suits.false)

@@ -10,11 +10,11 @@ loop-i-init c = (omega arith, matched_none _ _ _ _)
 
 pub loop-i-preserved : goal.loop-i-preserved
 loop-i-preserved c =
-    (omega arith, matched_more _ _ _ _ _ _ c.loop-i.invariant.1 (sym c.suits.ensures ∙ c.if-suits.true) c.cost-sum.ensures.0 c.cost-sum.ensures.1)
+    (omega arith, matched_more _ _ _ _ _ _ c.loop-i.invariant.1 (sym c.suits.ensures ∙ c.if-not-suits.false) c.cost-sum.ensures.0 c.cost-sum.ensures.1)
 
-pub returns-else-suits : goal.returns-else-suits
-returns-else-suits c =
-    tells_far _ _ _ _ _ _ c.loop-i.i (omega arith) c.loop-i.invariant.1 (sym c.suits.ensures ∙ c.if-suits.false)
+pub returns-then-not-suits : goal.returns-then-not-suits
+returns-then-not-suits c =
+    tells_far _ _ _ _ _ _ c.loop-i.i (omega arith) c.loop-i.invariant.1 (sym c.suits.ensures ∙ c.if-not-suits.true)
 
 pub returns-then-sum-gamma : goal.returns-then-sum-gamma
 returns-then-sum-gamma c =

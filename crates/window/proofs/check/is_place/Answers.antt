@@ -7,4 +7,4 @@ use Rattle.window.proofs.check.is_place.Goals as goal
 
 pub returns : goal.returns
 returns c =
-    ap (λ (k : ℕ). leb k c.args.gamma) (c.score_at.ensures c.args.gamma) ∙ score_place _ _ _ _ _ c.requires.1 c.requires.2
+    ap (λ (k : ℕ). leb k c.args.gamma) (c.from.ensures ∙ c.score_at.ensures c.args.gamma) ∙ score_place _ _ _ _ _ c.requires.0 c.requires.1

@@ -1,0 +1,9 @@
+-- `Agreed::mismatch_jump` meets its contract: each k is tried by its condition. Assumes nothing.
+use mathlib.Core.Path.{sym, ◌∙◌}
+use native.Mathlib.Omega.{arith}
+use borrow.Author.Rules.{rules}
+use Rattle.jumps.proofs.Laws.Conditions.{mismatch_start}
+use Rattle.comparing.proofs.compared.Agreed.mismatch_jump.Goals as goal
+
+pub returns : goal.returns
+returns c = (c.least.ensures.same _ (λ k b l p. search rules) ∙ sym (mismatch_start _ _ _ (omega arith)).same, omega arith)

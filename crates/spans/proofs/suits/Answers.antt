@@ -1,6 +1,0 @@
--- `spans::suits` meets its contract: the reading lies nothing outside. Assumes nothing.
-use Rattle.fit.proofs.Laws.Compiled.{in_is}
-use Rattle.spans.proofs.suits.Goals as goal
-
-pub returns : goal.returns
-returns c = in_is _ _ _ _ c.outside.ensures

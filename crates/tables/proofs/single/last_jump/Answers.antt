@@ -1,6 +1,0 @@
--- `tables::single::last_jump` meets its contract: the rule counts from the greatest point. Assumes nothing.
-use native.Mathlib.Omega.{arith}
-use Rattle.tables.proofs.single.last_jump.Goals as goal
-
-pub returns : goal.returns
-returns c = (rw c.greatest_near.ensures.0, omega arith)
