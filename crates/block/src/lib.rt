@@ -20,8 +20,7 @@ fn least_of(scores: &[u16]) -> u16
     scores.iter().copied().min().unwrap_or(u16::MAX)
 }
 
-// Notes the windows from s + at on, 16 of them, by their scores. It is compiled by itself, and so has all registers for its loop.
-#[inline(never)]
+// Notes the windows from s + at on, 16 of them, by their scores.
 fn note_sixteen(
     gamma: u32,
     lists: &mut Lists,
@@ -46,7 +45,9 @@ fn note_sixteen(
     found
 }
 
-// Notes the 64 windows from s on by their scores. Places stand close together, so most pieces of 16 have none, and are only counted.
+// Notes the 64 windows from s on by their scores. Places stand close together, so most pieces of 16 have none, and are only counted. It is compiled by
+// itself, and so has all registers for its loops.
+#[inline(never)]
 fn note_scored(gamma: u32, lists: &mut Lists, s: usize, scores: &[u16; 64], before: Found) -> Found
     requires { (s + 64 < 2 ^ 32) × (before.total ≤ before.tried) × (before.tried ≤ s) }
     ensures tried { TriedAll (told_by scores.now s gamma) (run s 64) before
@@ -58,6 +59,19 @@ fn note_scored(gamma: u32, lists: &mut Lists, s: usize, scores: &[u16; 64], befo
         found = note_sixteen(gamma, lists, s, scores, 16 * k, found);
     }
     found
+}
+
+// The same, at once where none of them is a place: one look at all scores tells, and costs no call.
+fn note_block(gamma: u32, lists: &mut Lists, s: usize, scores: &[u16; 64], before: Found) -> Found
+    requires { (s + 64 < 2 ^ 32) × (before.total ≤ before.tried) × (before.tried ≤ s) }
+    ensures tried { TriedAll (told_by scores.now s gamma) (run s 64) before
+        (lent_in lists.old) result (lent_in lists.new) }
+    ensures same { Same lists.old lists.new }
+{
+    if gamma < u32::from(least_of(scores)) {
+        return window::note_none(scores.len(), before);
+    }
+    note_scored(gamma, lists, s, scores, before)
 }
 
 // Tries the 64 windows from s on.
@@ -79,5 +93,5 @@ pub fn try_block(
         return window::note_none(64, before);
     };
     let scores = score::scores(spans, recording, s, &marks);
-    note_scored(gamma, lists, s, &scores, before)
+    note_block(gamma, lists, s, &scores, before)
 }

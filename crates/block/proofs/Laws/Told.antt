@@ -35,6 +35,13 @@ told_none scores s gamma at least inside least_is l j h =
     let long : at + 16 - at ≤ length (drop at scores) = omega (arith, length-drop at scores) in
     rw own (lt-leb (get_or scores (at + j) 0) gamma (omega (arith, same, least_is j (omega (arith, length-take-le (at + 16 - at) (drop at scores) long)))))
 
+-- and where the least of all is above gamma, none at all
+pub told_none_all : (scores : List ℕ) (s gamma least : ℕ) → EachIndex scores (λ k. least ≤ get_or scores k 0) → gamma < least
+    → (j : ℕ) → j < length scores → (told_by scores s gamma).place (s + j) ≡ false
+told_none_all scores s gamma least least_is l j h =
+    let own : s + j - s ≡ j = omega arith in
+    rw own (lt-leb (get_or scores j 0) gamma (omega (arith, least_is j h)))
+
 -- ---- what the scores tell is what is sought
 module _ (r : Rule) (y : List ℕ) (s m gamma : ℕ) {scores : List ℕ} (e : Entries (λ j. score_in (verdict_by r m gamma y (s + j))) 64 scores)
     (inside : s + 63 + m ≤ length y) (g : gamma ≤ max_gamma) (j : ℕ) (h : j < 64) where

@@ -13,4 +13,4 @@ returns-clause-tried c =
     let known = c.requires in
     let told = c.scores-scores.ensures _ in
     run_same _ _ _ _ (told_places _ _ _ _ _ told known.ready.1 known.ready.0.gamma_small) (told_sums _ _ _ _ _ told known.ready.1 known.ready.0.gamma_small)
-    c.note_scored.ensures.tried
+    c.note_block.ensures.tried
