@@ -16,7 +16,7 @@ max_gamma = 16320
 abbrev pub max_readings : ℕ
 max_readings = 1000000
 
--- the first of two numbers that is not 0, by which code joins two chains
+-- the first of two numbers that is not 0: the number of two chains that are joined
 unfoldable pub or_else : ℕ → ℕ → ℕ
 or_else zero later = later
 or_else (suc num) later = suc num

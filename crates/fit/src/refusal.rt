@@ -28,6 +28,12 @@ impl Refusal {
 }
 
 impl fmt::Display for Refusal {
+    ghost use Rattle.std.specs.Prelude.{Some};
+    ghost use Rattle.fit.specs.Refused.{words_of};
+
+    ghost output = { λ refusal. Some (words_of refusal) };
+
+    #[tactic(auto, unfolding(crate::specs::Refused::words_of))]
     fn fmt<W: fmt::Write>(&self, f: &mut fmt::Formatter<W>) -> fmt::Result {
         match self {
             Refusal::NoPoints => write!(f, "the profile has no points"),

@@ -14,7 +14,7 @@ use Rattle.fit.specs.Rule.{reading_at}
 use Rattle.fit.specs.Place.{fit_of, sum_diff, Place, d_of, g_of}
 use Rattle.fit.specs.Listing.{places}
 use Rattle.fit.specs.Chain.{FirstInOrder}
-use Rattle.fit.specs.Refusal.{or_else, search_reasons, search_refusal, Accepted}
+use Rattle.fit.specs.Refusal.{max_points, or_else, search_reasons, search_refusal, Accepted}
 use Rattle.fit.specs.Spans.{rule_in, spans_of}
 use Rattle.limits.specs.Made.{points_of, Carries}
 use Rattle.fit.specs.Verdict.{Told, far_at, fits_with, over_with, told_of, BreaksAt, verdict_by, verdict_of}
@@ -35,7 +35,7 @@ use Rattle.fit.proofs.Laws.Places.{place_in}
 use Rattle.fit.proofs.Laws.Verdicts.{told_only, told_fits, told_far, told_over, fits_place, far_first, over_sum}
 use Rattle.fit.proofs.Laws.Compiled.{compiled_verdict}
 use Rattle.judging.specs.declared.FlatVerdict.{FlatVerdict}
-use Rattle.judging.specs.Judging.{no_window, of_window, check_reasons, check_refusal, told_all, check_answer}
+use Rattle.judging.specs.Judging.{no_window, of_window, check_reasons, check_refusal, told_by, told_all, check_answer}
 
 -- ---- an s that has no window: 6
 module _ (m n s : ℕ) where
@@ -117,10 +117,10 @@ check_posed delta gamma x y s e w =
 module _ {delta gamma : ℕ} {x y : List ℕ} {s : ℕ} {q : Checked} (p : CheckPosed delta gamma x y s q) {d : ℕ} {spans : List ℕ}
     (small : d ≡ d_of q.tolerance.delta q.tolerance.gamma) (made : spans ≡ spans_of d (points_of q.profile)) where
   own : spans ≡ spans_of (d_of delta gamma) x
-  own = told_spans delta gamma x p.carries p.known.ok.asked.few small made
+  own = told_spans delta gamma x p.carries small made
 
-  pub check_ready : (m : ℕ) → m ≡ q.profile.m → s + m ≤ length y
-  check_ready m e = omega (arith, e, p.carries.profile.m_is, p.known.inside)
+  pub check_ready : (length x ≤ max_points) × (s + length x ≤ length y)
+  check_ready = (p.known.ok.asked.few, p.known.inside)
 
   pub check_told : (m : ℕ) → m ≡ q.profile.m → (v : Verdict) → told_of v ≡ verdict_by (rule_in spans) m gamma y s → told_of v ≡ verdict_of delta gamma x y s
   check_told m e v t = rw (e ∙ p.carries.profile.m_is) at t ∙ compiled_verdict delta gamma x spans own p.known.ok.asked.few y s
@@ -155,26 +155,28 @@ pub no_second_judged : (definition : FlatVerdict) (r r' : Result Verdict Refusal
 no_second_judged definition r r' e e' = all_only r r' (e ∙ sym e')
 
 module _ (delta gamma : ℕ) (x y : List ℕ) (s : ℕ) (r : Result Verdict Refusal) (a : told_all r ≡ check_answer (check_refusal delta gamma x y s) (verdict_of delta gamma x y s)) where
-  -- refused: by the refusal that has the number
-  pub refused_none : (num : ℕ) → check_refusal delta gamma x y s ≡ suc num → (e : Refusal) × (r ≡ Err e) × (number_of e ≡ suc num)
+  -- refused: by the refusal that has the number; in numbers, that number and a point 0 that is far
+  pub refused_none : (num : ℕ) → check_refusal delta gamma x y s ≡ suc num
+      → (e : Refusal) × (r ≡ Err e) × (number_of e ≡ suc num) × (told_all r ≡ told_by (suc num) (far_at 0))
   unfolding check_answer
   refused_none num e = by_result r refl
     where
-      by_result : (q : Result Verdict Refusal) → r ≡ q → (d : Refusal) × (r ≡ Err d) × (number_of d ≡ suc num)
+      by_result : (q : Result Verdict Refusal) → r ≡ q → (d : Refusal) × (r ≡ Err d) × (number_of d ≡ suc num) × (told_all r ≡ told_by (suc num) (far_at 0))
       by_result (Ok v) is = absurd (omega (arith, ap (λ (f : FlatVerdict). f.refusal) (rw (is, e) at a)))
-      by_result (Err d) is = (d, is, ap (λ (f : FlatVerdict). f.refusal) (rw (is, e) at a))
+      by_result (Err d) is = (d, is, ap (λ (f : FlatVerdict). f.refusal) (rw (is, e) at a), rw e at a)
 
   module _ (known : CheckAsked delta gamma x y s) where
     granted : told_all r ≡ record { refusal = 0; kind = (verdict_of delta gamma x y s).kind; point = (verdict_of delta gamma x y s).point; sum = (verdict_of delta gamma x y s).sum }
     unfolding check_answer
     granted = rw ((check_none_exactly delta gamma x y s).1 known) at a
 
-    -- not refused: a verdict, which is the definition's
-    pub granted_none : (v : Verdict) × (r ≡ Ok v) × (told_of v ≡ verdict_of delta gamma x y s)
+    -- not refused: a verdict, which is the definition's; in numbers, 0 beside it
+    pub granted_none : (v : Verdict) × (r ≡ Ok v) × (told_of v ≡ verdict_of delta gamma x y s) × ((told_all r).refusal ≡ 0)
     granted_none = by_result r refl
       where
-        by_result : (q : Result Verdict Refusal) → r ≡ q → (v : Verdict) × (r ≡ Ok v) × (told_of v ≡ verdict_of delta gamma x y s)
-        by_result (Ok v) is = (v, is, ap (λ (f : FlatVerdict). record { kind = f.kind; point = f.point; sum = f.sum }) (rw is at granted))
+        by_result : (q : Result Verdict Refusal) → r ≡ q → (v : Verdict) × (r ≡ Ok v) × (told_of v ≡ verdict_of delta gamma x y s) × ((told_all r).refusal ≡ 0)
+        by_result (Ok v) is =
+            (v, is, ap (λ (f : FlatVerdict). record { kind = f.kind; point = f.point; sum = f.sum }) (rw is at granted), ap (λ (f : FlatVerdict). f.refusal) granted)
         by_result (Err d) is = absurd (omega (arith, number_some d, ap (λ (f : FlatVerdict). f.refusal) (rw is at granted)))
 
     abbrev verdict : Verdict

@@ -1,5 +1,5 @@
 -- `check` meets its contract: refused, or what the window check answers over the profile's spans. Assumes nothing.
-use Rattle.std.proofs.Common.{sym}
+use Rattle.std.proofs.Common.{sym, arith}
 use Rattle.limits.proofs.Laws.Openings.{may_compile}
 use Rattle.judging.proofs.Laws.Judgings.{check_late, check_first, check_posed, check_ready, check_told, check_handed, check_granted}
 use Rattle.judging.proofs.check.Goals as goal
@@ -14,12 +14,13 @@ returns-in_err-of_window c =
 pub spans_of-spans-requires : goal.spans_of-spans-requires
 spans_of-spans-requires c =
     let at = check_posed _ _ _ _ _ c.in_ok-checked.ensures c.in_ok-of_window.ensures in
-    may_compile _ _ _ at.known.ok.asked at.carries c.d-d.ensures
+    (may_compile _ _ _ at.known.ok.asked at.carries c.d-d.ensures).1
 
 pub check_at-requires : goal.check_at-requires
 check_at-requires c =
     let at = check_posed _ _ _ _ _ c.in_ok-checked.ensures c.in_ok-of_window.ensures in
-    check_ready at c.d-d.ensures c.spans_of-spans.ensures.rows _ c.spans_of-spans.ensures.points
+    let ready = check_ready at c.d-d.ensures c.spans_of-spans.ensures.rows in
+    omega (arith, ready.1, c.spans_of-spans.ensures.points, at.carries.profile.m_is)
 
 pub returns : goal.returns
 returns c =

@@ -64,9 +64,9 @@ pub overlay_front : (x entry : List ℕ) → length x ≤ length entry → overl
 overlay_front x entry h = rw overlay_is (ap (λ (l : List ℕ). l ++ drop (length x) entry) (take_all (length entry) x h))
 
 -- ---- a profile of these points holds them
-pub holds_points : (x : List ℕ) (p : Profile) → OfPoints x p → length x ≤ max_points → points_of p ≡ x
-holds_points x p of few =
-    rw (of.points_are, of.m_is) (take_overlay x (replicate max_points 0) (omega (arith, few, length-replicate {A = ℕ} max_points 0)))
+pub holds_points : (x : List ℕ) (p : Profile) → OfPoints x p → points_of p ≡ x
+holds_points x p of =
+    rw (of.points_are, of.m_is) (take_overlay x (replicate max_points 0) (omega (arith, of.m_is, p.few, length-replicate {A = ℕ} max_points 0)))
 
 -- ---- what is told by checked input: d, g and the spans are those of what was asked
 module _ (delta gamma : ℕ) (x : List ℕ) {q : Checked} (c : Carries delta gamma x q) where
@@ -76,9 +76,9 @@ module _ (delta gamma : ℕ) (x : List ℕ) {q : Checked} (c : Carries delta gam
   pub told_g : (m : ℕ) {g : ℕ} → g ≡ g_of m q.tolerance.delta q.tolerance.gamma → g ≡ g_of m delta gamma
   told_g m e = rw (c.tolerance.delta_is, c.tolerance.gamma_is) at e
 
-  pub told_spans : {d : ℕ} {spans : List ℕ} → length x ≤ max_points → d ≡ d_of q.tolerance.delta q.tolerance.gamma
+  pub told_spans : {d : ℕ} {spans : List ℕ} → d ≡ d_of q.tolerance.delta q.tolerance.gamma
       → spans ≡ spans_of d (points_of q.profile) → spans ≡ spans_of (d_of delta gamma) x
-  told_spans few small e = rw (holds_points x q.profile c.profile few, told_d small) at e
+  told_spans small e = rw (holds_points x q.profile c.profile, told_d small) at e
 
 -- ---- no second tolerance, profile or checked input: what they hold is the same
 pub no_second_tolerance : (delta gamma : ℕ) (t u : Tolerance) → OfTolerances delta gamma t → OfTolerances delta gamma u → t ≡ u

@@ -18,7 +18,7 @@ returns-in_err-checked c = handed_search _ _ _ _ _ _ c.from_residual.ensures.1 c
 pub spans_of-spans-requires : goal.spans_of-spans-requires
 spans_of-spans-requires c =
     let at = passed _ _ _ _ c.in_ok-checked.ensures in
-    may_compile _ _ _ at.ok.asked at.carries c.d-d.ensures
+    (may_compile _ _ _ at.ok.asked at.carries c.d-d.ensures).1
 
 pub invariant_of-points : goal.invariant_of-points
 invariant_of-points c =
@@ -32,7 +32,7 @@ walk-found-requires c =
     let points = made.points ∙ at.carries.profile.m_is in
     let compared = c.compared_of-compared.ensures in
     record {
-      walkable = walkable _ _ _ _ _ _ _ _ _ at.ok (told_d _ _ _ at.carries c.d-d.ensures) (told_spans _ _ _ at.carries at.ok.asked.few c.d-d.ensures made.rows)
+      walkable = walkable _ _ _ _ _ _ _ _ _ at.ok (told_d _ _ _ at.carries c.d-d.ensures) (told_spans _ _ _ at.carries c.d-d.ensures made.rows)
           (rw points at c.next_table-next.ensures) compared.0 compared.1;
       same_points = points;
     }
@@ -41,6 +41,6 @@ pub returns : goal.returns
 returns c =
     let at = passed _ _ _ _ c.in_ok-checked.ensures in
     let made = c.spans_of-spans.ensures in
-    let answer = compiled_answer_lem c.args.delta c.args.gamma c.args.points.now c.args.recording.now c.spans_of-spans.result.rows (told_spans _ _ _ at.carries at.ok.asked.few c.d-d.ensures made.rows) at.ok _ _
+    let answer = compiled_answer_lem c.args.delta c.args.gamma c.args.points.now c.args.recording.now c.spans_of-spans.result.rows (told_spans _ _ _ at.carries c.d-d.ensures made.rows) at.ok _ _
     (ap (λ (k : ℕ). length (maximal_walk k c.args.points.now c.args.recording.now)) (told_d _ _ _ at.carries c.d-d.ensures)) c.walk-found.ensures.answer in
     search rules

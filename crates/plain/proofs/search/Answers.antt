@@ -14,7 +14,7 @@ returns-in_err-checked c = handed_search _ _ _ _ _ _ c.from_residual.ensures.1 c
 pub spans_of-spans-requires : goal.spans_of-spans-requires
 spans_of-spans-requires c =
     let known = passed _ _ _ _ c.in_ok-checked.ensures in
-    may_compile _ _ _ known.ok.asked known.carries c.d.ensures
+    (may_compile _ _ _ known.ok.asked known.carries c.d.ensures).1
 
 pub over_spans-requires : goal.over_spans-requires
 over_spans-requires c =
@@ -25,5 +25,5 @@ pub returns : goal.returns
 returns c =
     let known = passed _ _ _ _ c.in_ok-checked.ensures in
     let long : c.spans_of-spans.result.m ≡ length c.args.points.now = c.spans_of-spans.ensures.points ∙ known.carries.profile.m_is in
-    let answer = compiled_answer_lem c.args.delta c.args.gamma c.args.points.now c.args.recording.now c.spans_of-spans.result.rows (told_spans _ _ _ known.carries known.ok.asked.few c.d.ensures c.spans_of-spans.ensures.rows) known.ok _ _ refl (rw long at c.over_spans.ensures.answer) in
+    let answer = compiled_answer_lem c.args.delta c.args.gamma c.args.points.now c.args.recording.now c.spans_of-spans.result.rows (told_spans _ _ _ known.carries c.d.ensures c.spans_of-spans.ensures.rows) known.ok _ _ refl (rw long at c.over_spans.ensures.answer) in
     search rules

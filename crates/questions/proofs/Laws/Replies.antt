@@ -63,13 +63,21 @@ mismatch_number delta gamma x q a p num late l joined =
     joined ∙ ap₂ or_else (refusal_given _ (Carries delta gamma x) q a) l ∙ sym (mismatch_joined delta gamma x p)
 
 -- ---- what a question knows past its refusals: it has what its rule needs
+pub record Spanned (delta gamma : ℕ) (x spans : List ℕ) : Type 0 where
+  pub ok : Asked delta gamma x
+  pub made : spans ≡ spans_of (d_of delta gamma) x
+
 module _ (delta gamma : ℕ) (x : List ℕ) where
   pub question_usable : {q : Checked} → (question_refusal delta gamma x ≡ 0) × Carries delta gamma x q → (d : ℕ) → d ≡ d_of q.tolerance.delta q.tolerance.gamma → Usable d x
   question_usable e d t = let p = posed delta gamma x e in usable delta gamma x d (told_d delta gamma x p.carries t) p.ok
 
   pub compiled : {q : Checked} → (question_refusal delta gamma x ≡ 0) × Carries delta gamma x q → {d m : ℕ} {rows : List ℕ} → d ≡ d_of q.tolerance.delta q.tolerance.gamma
       → rows ≡ spans_of d (points_of q.profile) → m ≡ q.profile.m → (rows ≡ spans_of (d_of delta gamma) x) × (m ≡ length x)
-  compiled e t r m = let p = posed delta gamma x e in (told_spans delta gamma x p.carries p.ok.few t r, m ∙ p.carries.profile.m_is)
+  compiled e t r m = let p = posed delta gamma x e in (told_spans delta gamma x p.carries t r, m ∙ p.carries.profile.m_is)
+
+  -- not refused, the spans of an accepted profile
+  pub spanned : {s : Spans} → (question_refusal delta gamma x ≡ 0) × Compiles (d_of delta gamma) x s → Spanned delta gamma x s.rows
+  spanned e = record { ok = asked_accepted delta gamma x e.0; made = e.1.rows }
 
   -- of an accepted profile
   pub spanned_asked : {s : Spans} → (question_refusal delta gamma x ≡ 0) × Compiles (d_of delta gamma) x s → Asked delta gamma x

@@ -4,7 +4,7 @@ use Rattle.questions.proofs.Laws.Replies.{compiled}
 use Rattle.questions.proofs.compile.Goals as goal
 
 pub spans_of-requires : goal.spans_of-requires
-spans_of-requires c = let p = posed _ _ _ c.in_ok-checked.ensures in may_compile _ _ _ p.ok p.carries c.d-d.ensures
+spans_of-requires c = let p = posed _ _ _ c.in_ok-checked.ensures in (may_compile _ _ _ p.ok p.carries c.d-d.ensures).1
 
 pub returns : goal.returns
 returns c =

@@ -9,7 +9,7 @@ use Rattle.last.proofs.walk.prepare.Goals as goal
 pub spans_of-spans-requires : goal.spans_of-spans-requires
 spans_of-spans-requires c =
     let at = passed _ _ _ _ c.in_ok-checked.ensures in
-    may_compile _ _ _ at.ok.asked at.carries c.d-d.ensures
+    (may_compile _ _ _ at.ok.asked at.carries c.d-d.ensures).1
 
 pub seen_table-seen-requires : goal.seen_table-seen-requires
 seen_table-seen-requires c =
@@ -26,6 +26,6 @@ returns c =
     let at = passed _ _ _ _ c.in_ok-checked.ensures in
     let made = c.spans_of-spans.ensures in (
       c.in_ok-checked.ensures.0,
-      prepared_made _ _ _ _ (told_spans _ _ _ at.carries at.ok.asked.few c.d-d.ensures made.rows) (made.points ∙ at.carries.profile.m_is)
+      prepared_made _ _ _ _ (told_spans _ _ _ at.carries c.d-d.ensures made.rows) (made.points ∙ at.carries.profile.m_is)
           c.last_table-table.ensures c.seen_table-seen.ensures,
     )
