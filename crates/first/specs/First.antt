@@ -24,9 +24,13 @@ abbrev pub tried_of : Result First Refusal → ℕ
 tried_of (Ok f) = f.tried
 tried_of (Err e) = 0
 
+-- a refusal's number, a place or none and a count of windows, in these numbers
+abbrev pub told_by : ℕ → Option ℕ → ℕ → Flat
+told_by num place tried = record { refusal = num; found = number_of place; place = value_of place; tried = tried }
+
 -- an answer in these numbers
 abbrev pub told_of : Result First Refusal → Flat
-told_of r = record { refusal = refusal_of r; found = number_of (place_of r); place = value_of (place_of r); tried = tried_of r }
+told_of r = told_by (refusal_of r) (place_of r) (tried_of r)
 
 -- the windows of a walk "up to and including that place, or of the whole walk"
 unfoldable pub up_to_place : (ℕ → Bool) → List ℕ → List ℕ

@@ -6,7 +6,7 @@ ghost use Rattle.fit.specs.Refusal.{search_refusal};
 ghost use Rattle.fit.specs.Spans.{rule_in};
 ghost use Rattle.fit.specs.Answer.{sought_by, sought_of};
 ghost use Rattle.last.specs.Walk.{last_walk_of, walk_in, Walkable};
-ghost use Rattle.first.specs.First.{told_of, first_answer};
+ghost use Rattle.first.specs.First.{told_by, told_of, first_answer};
 
 use fit::Refusal;
 use last::Prepared;
@@ -35,23 +35,30 @@ impl From<Result<First, Refusal>> for Flat {
     #[tactic(auto, unfolding(crate::specs::First::number_of, crate::specs::First::value_of))]
     fn from(answer: Result<First, Refusal>) -> Flat {
         match answer {
-            Ok(first) => match first.place {
-                Some(place) => Flat {
-                    refusal: 0,
-                    found: 1,
-                    place,
-                    tried: first.tried,
-                },
-                None => Flat {
-                    tried: first.tried,
-                    ..Flat::default()
-                },
-            },
-            Err(refusal) => Flat {
-                refusal: refusal.number(),
-                ..Flat::default()
-            },
+            Ok(first) => told(0, first.place, first.tried),
+            Err(refusal) => told(refusal.number(), None, 0),
         }
+    }
+}
+
+// A refusal's number, 0 where there is none, a place or none, and a count of windows, in numbers alone.
+#[tactic(auto, unfolding(crate::specs::First::number_of, crate::specs::First::value_of))]
+pub fn told(refusal: u32, place: Option<usize>, tried: usize) -> Flat
+    ensures { result ≡ told_by refusal place tried }
+{
+    match place {
+        Some(place) => Flat {
+            refusal,
+            found: 1,
+            place,
+            tried,
+        },
+        None => Flat {
+            refusal,
+            found: 0,
+            place: 0,
+            tried,
+        },
     }
 }
 

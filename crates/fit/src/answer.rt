@@ -1,5 +1,6 @@
 // What a search answers.
-ghost use Rattle.fit.specs.Answer.{search_of};
+ghost use Rattle.std.specs.Prelude.{◌≡◌};
+ghost use Rattle.fit.specs.Answer.{begun, search_of};
 
 use super::Refusal;
 
@@ -22,9 +23,19 @@ pub struct Search {
     pub least: u32,
 }
 
-impl From<Result<Found, Refusal>> for Search {
-    ghost use Rattle.std.specs.Prelude.{◌≡◌};
+// The answer of a search that is refused by this number, whatever the number is.
+pub fn begin(number: u32) -> Search
+    ensures { result ≡ begun number }
+{
+    Search {
+        refusal: number,
+        total: 0,
+        tried: 0,
+        least: 0,
+    }
+}
 
+impl From<Result<Found, Refusal>> for Search {
     ghost from_gives = { λ answer r. r ≡ search_of answer };
 
     fn from(answer: Result<Found, Refusal>) -> Search {
@@ -35,12 +46,7 @@ impl From<Result<Found, Refusal>> for Search {
                 tried: found.tried,
                 least: found.least,
             },
-            Err(refusal) => Search {
-                refusal: refusal.number(),
-                total: 0,
-                tried: 0,
-                least: 0,
-            },
+            Err(refusal) => begin(refusal.number()),
         }
     }
 }

@@ -7,6 +7,6 @@ mod answer;
 mod refusal;
 mod verdict;
 
-pub use answer::{Found, Search};
+pub use answer::{Found, Search, begin};
 pub use refusal::Refusal;
 pub use verdict::Verdict;

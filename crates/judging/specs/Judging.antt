@@ -23,9 +23,13 @@ check_reasons delta gamma x y s = search_reasons delta gamma x y ++ (no_window (
 unfoldable pub check_refusal : ℕ → ℕ → List ℕ → List ℕ → ℕ → ℕ
 check_refusal delta gamma x y s = first_reason (check_reasons delta gamma x y s)
 
--- an answer in numbers: the verdict by the number and the values of its case; refused, the number of the refusal, and zeros
+-- a refusal's number and a verdict in numbers: the verdict by the number and the values of its case
+abbrev pub told_by : ℕ → Told → FlatVerdict
+told_by num t = record { refusal = num; kind = t.kind; point = t.point; sum = t.sum }
+
+-- an answer in numbers: the verdict; refused, the number of the refusal, and zeros
 abbrev pub told_all : Result Verdict Refusal → FlatVerdict
-told_all (Ok v) = record { refusal = 0; kind = (told_of v).kind; point = (told_of v).point; sum = (told_of v).sum }
+told_all (Ok v) = told_by 0 (told_of v)
 told_all (Err e) = record { refusal = number_of e; kind = 0; point = 0; sum = 0 }
 
 -- the whole answer, by the refusal's number: the verdict; or the number, and zeros

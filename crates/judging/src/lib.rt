@@ -3,8 +3,8 @@
 
 ghost use Rattle.std.specs.Prelude.{◌≡◌, length};
 ghost use Rattle.fit.specs.Refused.{refusal_of};
-ghost use Rattle.fit.specs.Verdict.{verdict_of};
-ghost use Rattle.judging.specs.Judging.{of_window, check_refusal, told_all, check_answer};
+ghost use Rattle.fit.specs.Verdict.{told_of, verdict_of};
+ghost use Rattle.judging.specs.Judging.{of_window, check_refusal, told_by, told_all, check_answer};
 
 use fit::{Refusal, Verdict};
 
@@ -24,18 +24,38 @@ impl From<Result<Verdict, Refusal>> for FlatVerdict {
 
     #[tactic(auto, unfolding(fit::specs::Verdict::told_of))]
     fn from(answer: Result<Verdict, Refusal>) -> FlatVerdict {
-        let (refusal, kind, point, sum) = match answer {
-            Ok(Verdict::Far(p)) => (0, 0, p, 0),
-            Ok(Verdict::Fits(sum)) => (0, 1, 0, sum),
-            Ok(Verdict::Over(sum)) => (0, 2, 0, sum),
-            Err(refusal) => (refusal.number(), 0, 0, 0),
-        };
-        FlatVerdict {
-            refusal,
-            kind,
-            point,
-            sum,
+        match answer {
+            Ok(verdict) => told(0, verdict),
+            // no point has the number 0
+            Err(refusal) => told(refusal.number(), Verdict::Far(0)),
         }
+    }
+}
+
+// A refusal's number, 0 where there is none, and a verdict, in numbers alone.
+#[tactic(auto, unfolding(fit::specs::Verdict::told_of))]
+pub fn told(refusal: u32, verdict: Verdict) -> FlatVerdict
+    ensures { result ≡ told_by refusal (told_of verdict) }
+{
+    match verdict {
+        Verdict::Fits(sum) => FlatVerdict {
+            refusal,
+            kind: 1,
+            point: 0,
+            sum,
+        },
+        Verdict::Far(p) => FlatVerdict {
+            refusal,
+            kind: 0,
+            point: p,
+            sum: 0,
+        },
+        Verdict::Over(sum) => FlatVerdict {
+            refusal,
+            kind: 2,
+            point: 0,
+            sum,
+        },
     }
 }
 

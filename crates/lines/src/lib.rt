@@ -2,11 +2,10 @@
 #![tactic(auto)]
 
 ghost use Rattle.std.specs.Prelude.{◌≡◌};
-ghost use Rattle.fit.specs.Answer.{search_of};
 ghost use Rattle.page.specs.Puts.{Puts};
 ghost use Rattle.lines.specs.Lines.{ended, counts_line, refused_line, line_of, lines_of};
 
-use fit::{Found, Refusal};
+use fit::Search;
 use page::Page;
 
 // A number, and the line ends.
@@ -17,7 +16,8 @@ fn put_ended(page: &mut Page, x: u64)
     page.put_text(b"\n");
 }
 
-// `NAME refused NUMBER`. The number and no `Refusal`, which would ask more of callers than the contract did.
+// `NAME refused NUMBER`. The number and no `Refusal`, and the flat answer below and no `Result`: their promises are over every number, and each of these
+// would ask more of callers.
 pub fn put_refused(page: &mut Page, name: &[u8], number: u32)
     ensures { Puts page.old (refused_line name.now number) page.new }
 {
@@ -27,23 +27,24 @@ pub fn put_refused(page: &mut Page, name: &[u8], number: u32)
 }
 
 // `NAME TOTAL TRIED`. `as`, since there is no `From` of a `usize`, which has 64 bits.
-fn put_counts(page: &mut Page, name: &[u8], found: Found)
-    ensures { Puts page.old (counts_line name.now found.total found.tried) page.new }
+fn put_counts(page: &mut Page, name: &[u8], total: usize, tried: usize)
+    ensures { Puts page.old (counts_line name.now total tried) page.new }
 {
     page.put_text(name);
     page.put_text(b" ");
-    page.put_number(found.total as u64);
+    page.put_number(total as u64);
     page.put_text(b" ");
-    put_ended(page, found.tried as u64);
+    put_ended(page, tried as u64);
 }
 
 // The line of a searcher: the one or the other.
-pub fn put_line(page: &mut Page, name: &[u8], answer: Result<Found, Refusal>)
-    ensures { Puts page.old (line_of name.now (search_of answer)) page.new }
+pub fn put_line(page: &mut Page, name: &[u8], found: Search)
+    ensures { Puts page.old (line_of name.now found) page.new }
 {
-    match answer {
-        Ok(found) => put_counts(page, name, found),
-        Err(refusal) => put_refused(page, name, refusal.number()),
+    if found.refusal != 0 {
+        put_refused(page, name, found.refusal);
+    } else {
+        put_counts(page, name, found.total, found.tried);
     }
 }
 

@@ -52,7 +52,7 @@ impl NearPoints {
 }
 
 // For each reading the points that it suits. Each point is marked for its own readings, so that no point is asked for each reading.
-fn near_masks(spans: &Spans) -> [u64; 256]
+pub fn near_masks(spans: &Spans) -> [u64; 256]
     ensures { MarkTable spans.now.m (rule_in spans.now.rows).fit result }
 {
     let mut masks = [0; 256];
@@ -81,7 +81,7 @@ fn end_of(high: u16) -> usize
 }
 
 // For each reading how many points are marked.
-fn mark_counts(masks: &[u64; 256]) -> [u8; 256]
+pub fn mark_counts(masks: &[u64; 256]) -> [u8; 256]
     ensures { Entries (λ (a : ℕ). ones (get_or masks.now a 0)) readings result }
 {
     let mut counts = [0; 256];

@@ -9,7 +9,7 @@ ghost use Rattle.jumps.specs.Jumps.{last_jump, next_jump, seen_jump, after_jump,
 ghost use Rattle.questions.specs.Asking.{Compiles, jump_of, jump_answer, of_point, mismatch_refusal};
 
 use fit::Refusal;
-pub use judging::{FlatVerdict, check};
+pub use judging::{FlatVerdict, check, told};
 use spans::Spans;
 use tables::Points;
 

@@ -6,6 +6,7 @@ ghost use Rattle.input.specs.Inputs.{max_input};
 ghost use Rattle.page.specs.Puts.{Puts};
 ghost use Rattle.report.specs.Report.{others_for, report_for, report_of, page_length};
 
+use fit::Search;
 use input::Input;
 use page::Page;
 
@@ -50,7 +51,7 @@ fn with_list(page: &mut Page, input: &Input, list: &mut [u32])
         recording,
     } = *input;
     let found = plain::search(points, delta, gamma, recording, list, &mut []);
-    lines::put_line(page, b"plain", found);
+    lines::put_line(page, b"plain", Search::from(found));
     put_others(page, input);
     if let Ok(found) = found {
         lines::put_places(page, &list[..found.total]);
@@ -68,11 +69,11 @@ fn put_others(page: &mut Page, input: &Input)
         recording,
     } = *input;
     let packed = packed::search(points, delta, gamma, recording, &mut [], &mut []);
-    lines::put_line(page, b"packed", packed);
+    lines::put_line(page, b"packed", Search::from(packed));
     let last = last::search(points, delta, gamma, recording, &mut [], &mut []);
-    lines::put_line(page, b"last", last);
+    lines::put_line(page, b"last", Search::from(last));
     let skip = skip::search(points, delta, gamma, recording, &mut [], &mut []);
-    lines::put_line(page, b"skip", skip);
+    lines::put_line(page, b"skip", Search::from(skip));
     let maximal = maximal::search(points, delta, gamma, recording, &mut [], &mut []);
-    lines::put_line(page, b"maximal", maximal);
+    lines::put_line(page, b"maximal", Search::from(maximal));
 }

@@ -6,13 +6,7 @@ use native.Mathlib.Numerals.{add-one}
 use native.Mathlib.Omega.{arith}
 use lib.ListN.{length, get_or, take, length-append}
 use lib.Seq.{take-suc}
-use Rattle.std.specs.Prelude.{Ok, Err}
-use Rattle.fit.specs.Answer.{begun, search_of}
-use Rattle.fit.specs.Refused.{number_of}
-use Rattle.fit.specs.declared.answer.Found.{Found}
 use Rattle.fit.specs.declared.answer.Search.{Search}
-use Rattle.fit.specs.declared.refusal.Refusal.{Refusal}
-use Rattle.fit.proofs.Laws.Refused.{number_some}
 use Rattle.page.specs.Put.{decimal}
 use Rattle.page.specs.Puts.{Puts}
 use Rattle.page.specs.declared.Page.{Page}
@@ -21,18 +15,18 @@ use Rattle.page.proofs.Laws.Numbers.{decimal_short}
 use Rattle.lines.specs.Lines.{space, line_end, refused_word, ended, counts_line, refused_line, line_by, line_of, lines_of}
 
 -- ---- the line of a searcher, refused or not
-module _ (name : List ℕ) {p q : Page} where
-  pub line_counted : (f : Found) → Puts p (counts_line name f.total f.tried) q → Puts p (line_of name (search_of (Ok f))) q
+module _ (name : List ℕ) (r : Search) {p q : Page} where
+  pub line_refused : (r.refusal ≡ 0 → ⊥) → Puts p (refused_line name r.refusal) q → Puts p (line_of name r) q
   unfolding line_by
-  line_counted f h = h
-
-  pub line_refused : (e : Refusal) → Puts p (refused_line name (number_of e)) q → Puts p (line_of name (search_of (Err e))) q
-  unfolding line_by
-  line_refused e h = by_number (number_of e) (number_some e) h
+  line_refused some h = by_number r.refusal some h
     where
-      by_number : (num : ℕ) → 1 ≤ num → Puts p (refused_line name num) q → Puts p (line_by num name (begun num)) q
-      by_number zero some k = absurd (omega (arith, some))
-      by_number (suc num) some k = k
+      by_number : (num : ℕ) → (num ≡ 0 → ⊥) → Puts p (refused_line name num) q → Puts p (line_by num name r) q
+      by_number zero h k = absurd (h refl)
+      by_number (suc num) h k = k
+
+  pub line_counted : r.refusal ≡ 0 → Puts p (counts_line name r.total r.tried) q → Puts p (line_of name r) q
+  unfolding line_by
+  line_counted none h = rw none h
 
 -- ---- the places, one to a line
 lines_behind : (ps : List ℕ) (p : ℕ) → lines_of (ps ++ (p ∷ [])) ≡ lines_of ps ++ ended p

@@ -2,8 +2,8 @@
 use Rattle.lines.proofs.Laws.Texts.{line_refused, line_counted}
 use Rattle.lines.proofs.put_line.Goals as goal
 
-pub returns-in-Ok : goal.returns-in-Ok
-returns-in-Ok c = rw c.in-Ok.is (line_counted _ c.in-Ok.found c.put_counts.ensures)
+pub returns-then-found-ne0 : goal.returns-then-found-ne0
+returns-then-found-ne0 c = line_refused _ _ c.if-found-ne0.true c.put_refused.ensures
 
-pub returns-in-Err : goal.returns-in-Err
-returns-in-Err c = rw c.in-Err.is (line_refused _ c.in-Err.refusal (rw (← c.number.ensures) c.put_refused.ensures))
+pub returns-else-found-ne0 : goal.returns-else-found-ne0
+returns-else-found-ne0 c = line_counted _ _ c.if-found-ne0.false c.put_counts.ensures
